@@ -1,0 +1,14 @@
+pub mod Grounds
+pub mod Laid
+pub mod Sought
+pub mod Counting
+pub mod Adding
+pub mod Grown
+pub mod Tallying
+pub mod Fitting
+pub mod Walked
+pub mod Noted
+pub mod Scoping
+pub mod Roles
+pub mod Kids
+pub mod Judged

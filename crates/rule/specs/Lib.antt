@@ -1,0 +1,9 @@
+pub mod Faults
+pub mod Format
+pub mod Lookup
+pub mod Run
+pub mod Trees
+pub mod Scopes
+pub mod Marks
+pub mod Intake
+pub mod Tally
