@@ -1,5 +1,5 @@
 ghost use mathlib.Core.Path.{_≡_};
-ghost use Rattle.rule.specs.Faults.{numberOf};
+ghost use Rattle.rule.specs.Faults.{groundOf, numberOf};
 
 // Why a run of words is no rule, in the order in which the grounds are tested.
 #[derive(Clone, Copy)]
@@ -37,7 +37,9 @@ impl Fault {
     }
 
     // The ground in plain words.
-    pub fn ground(self) -> &'static str {
+    pub fn ground(self) -> &'static str
+        ensures { λ r. ⌜ now r ≡ groundOf self ⌝ }
+    {
         match self {
             Fault::TooLong => "longer than 8192 words",
             Fault::CutShort => "empty, or ends inside a node",
