@@ -1,0 +1,4 @@
+pub mod Numerals
+pub mod Pieces
+pub mod Lines
+pub mod Rules
