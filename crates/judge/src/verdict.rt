@@ -2,7 +2,7 @@
 ghost use mathlib.Core.Path.{_≡_};
 ghost use Prim.Native.Nat.{_+_};
 ghost use lib.ListN.{length};
-ghost use Rattle.judge.specs.Verdicts.{acceptances};
+ghost use Rattle.judge.specs.Verdicts.{VerdictOn, acceptances};
 use rule::fault::Fault;
 use rule::intake::intake_entry;
 use std::fmt;
@@ -26,7 +26,9 @@ pub impl fmt::Display for Verdict as VerdictDisplay {
     }
 }
 
-pub fn verdict_of(words: &[u32]) -> Verdict {
+pub fn verdict_of(words: &[u32]) -> Verdict
+    ensures { λ r. ⌜ VerdictOn (now (words .entry)) r ⌝ }
+{
     match intake_entry(words) {
         Ok(_) => Verdict::Accepted,
         Err(fault) => Verdict::Refused(fault),
