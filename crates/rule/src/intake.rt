@@ -1,6 +1,8 @@
 ghost use Rattle.std.specs.Results.{Cases};
 ghost use mathlib.Core.Path.{_≡_};
 ghost use lib.ListN.{length};
+ghost use Prim.Native.Nat.{_≤_};
+ghost use Rattle.rule.specs.Faults.{numberOf};
 ghost use Rattle.rule.specs.Intake.{Accepted, Refused, Read, Comparable};
 use crate::classes::check_classes;
 use crate::fault::Fault;
@@ -13,7 +15,7 @@ use crate::words::check_words;
 
 // A run of words as a rule: the places of its nodes, or the first ground of 1 to 6 on which it is refused.
 pub fn intake(words: &[u32]) -> Result<Nodes, Fault>
-    ensures { λ r. ⌜ Cases r (λ n. Accepted 6 (now (words .entry)) n) (λ f. Refused (now (words .entry)) f) ⌝ }
+    ensures { λ r. ⌜ Cases r (λ n. Accepted 6 (now (words .entry)) n) (λ f. Refused (now (words .entry)) f × (numberOf f ≤ 6)) ⌝ }
 {
     let nodes = read_nodes(words)?;
     let rule = Rule {

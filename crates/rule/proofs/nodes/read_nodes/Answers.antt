@@ -17,10 +17,10 @@ pub loop-place-holds : need.loop-place-holds
 loop-place-holds c = (found-none _, omega arith, omega arith, refl)
 
 pub returns-then-words-place-lt4 : need.returns-then-words-place-lt4
-returns-then-words-place-lt4 c = cut _ _ _ (omega arith) (c .loop-place-test .taken) (omega arith) (c .loop-place .inv .0)
+returns-then-words-place-lt4 c = (cut _ _ _ (omega arith) (c .loop-place-test .taken) (omega arith) (c .loop-place .inv .0), omega arith)
 
 pub returns-then-words-place : need.returns-then-words-place
-returns-then-words-place c = cut _ _ _ (omega arith) (c .loop-place-test .taken) (omega arith) (c .loop-place .inv .0)
+returns-then-words-place c = (cut _ _ _ (omega arith) (c .loop-place-test .taken) (omega arith) (c .loop-place .inv .0), omega arith)
 
 pub loop-place-again : need.loop-place-again
 loop-place-again c =
