@@ -1,2 +1,4 @@
 pub mod Commands
+pub mod Names
+pub mod Outcomes
 pub mod Verdicts

@@ -1,4 +1,4 @@
-// judge: says of each rule of a table whether it can be judged.
+// judge: says of each rule of a table whether it can be judged, and of rules whether they are the same.
 use command::Command;
 use command::MisuseDisplay;
 use command::parse_args;
@@ -8,8 +8,13 @@ use source::TroubleFromIo;
 use std::env;
 use std::fmt;
 
+mod change;
 mod check;
 mod command;
+mod compare;
+mod names;
+mod outcome;
+mod pairs;
 mod source;
 mod verdict;
 
@@ -40,6 +45,12 @@ fn perform<'a>(rt: &LibcRuntime, command: Command<'a>) -> Result<(), Trouble<'a>
             Ok(())
         }
         Command::Check { table } => check::check(rt, table),
+        Command::Compare {
+            table,
+            first,
+            second,
+        } => compare::compare(rt, table, first, second),
+        Command::Change { old, new } => change::change(rt, old, new),
     }
 }
 

@@ -48,3 +48,7 @@ module _ (t wa oa wb ob : List ℕ) (i j : ℕ) (l r : Kind) (d : Ready t wa oa 
         subst (λ p. getD wa p 0 < i) a (d .l-held .below 0 (omega arith)),
         d .l-held .below 1 (omega arith),
       )
+
+-- two nodes, as what they come to
+pub ready-of : (t wa oa wb ob : List ℕ) (i j : ℕ) (l r : Kind) → Asked t wa oa wb ob i j → Held wa l i → Held wb r j → Ready t wa oa wb ob i j l r
+ready-of t wa oa wb ob i j l r a h k = record { room = a .room; rules = a .rules; i-in = a .i-in; j-in = a .j-in; l-held = h; r-held = k }

@@ -2,6 +2,7 @@
 // were declared so far; what a failed reading added to it is put back.
 ghost use Prim.Native.Nat.{ℕ, _+_, _<_, _≤_};
 ghost use Rattle.rule.specs.Scopes.{role};
+ghost use Rattle.trial.specs.Table.{unpaired};
 ghost use Rattle.sameness.specs.Deciding.{matched, Table};
 ghost use Rattle.sameness.specs.Walking.{Asked, Ready, NodesWalked, KindsWalked, KidsWalked, BothWalked, Pictured, Not, FirstFails};
 ghost use lib.ListN.{length, getD};
@@ -17,12 +18,19 @@ use trial::pairs::paired;
 use trial::pairs::record;
 use trial::pairs::unpaired;
 
+// Neither local has a partner: only then do their numbers count.
+fn are_free(t: &[u32], x: u32, y: u32) -> bool
+    ensures { λ yes. ⌜ yes ≡ unpaired (now (t .entry)) x y ⌝ }
+{
+    unpaired(t, x, y)
+}
+
 // A used local of the first rule and one of the second: partners, or both without one and the same.
 fn eq_locals(t: &[u32], x: u32, y: u32) -> bool
     requires { ⌜ length (now t) ≡ 2048 ⌝ ∗ ⌜ x < 1024 ⌝ ∗ ⌜ y < 1024 ⌝ }
     ensures { λ yes. ⌜ ((P : Table) → Pictured P (now (t .entry)) → yes ≡ matched P x y) ⌝ }
 {
-    if unpaired(t, x, y) {
+    if are_free(t, x, y) {
         return x == y;
     }
     paired(t, x, y)

@@ -9,13 +9,15 @@ use Rattle.sameness.proofs.compare.compare.Needs as need
 pub judge-rules-same-requires : need.judge-rules-same-requires
 judge-rules-same-requires c κs =
     let a = c .in-Ok .ensures tt in
-    let b = c .in-Ok-intake .ensures tt in
-    ( (accepted-read 6 _ _ _ (omega arith) a (omega arith), accepted-read 6 _ _ _ (omega arith) b (omega arith))
-    , (a .passes, (b .passes, simp length-take (omega (arith, c .if-pairs-lt-PLACES .left)))) )
+    let b = c .in-Ok-intake .ensures tt in (
+      (accepted-read 6 _ _ _ (omega arith) a (omega arith), accepted-read 6 _ _ _ (omega arith) b (omega arith)),
+      (a .passes, (b .passes, simp length-take (omega arith))),
+    )
 
 pub returns : need.returns
 returns c =
     let a = c .in-Ok .ensures tt in
     let b = c .in-Ok-intake .ensures tt in
-    let l : length (c .judge-rules-same .last .t) ≡ 2048 = c .judge-rules-same .kept .t ∙ (simp length-take (omega (arith, c .if-pairs-lt-PLACES .left))) in
-    (a .passes, b .passes, c .if-pairs-lt-PLACES .left, judged-front _ _ _ _ l (c .judge-rules-same .result) (c .judge-rules-same .ensures), tail-kept _ _ l (c .if-pairs-lt-PLACES .left))
+    let l : length (c .judge-rules-same .last .t) ≡ 2048 = c .judge-rules-same .kept .t ∙ (simp length-take (omega arith)) in
+    let h : 2048 ≤ length (c .args .pairs .now) = omega arith in
+    (a .passes, b .passes, h, judged-front _ _ _ _ l (c .judge-rules-same .result) (c .judge-rules-same .ensures), tail-kept _ _ l h)

@@ -1,12 +1,13 @@
 use mathlib.Core.Bool.{Bool, true, false}
 use mathlib.Core.Logic.{inl, inr, ⊎-elim}
-use mathlib.Core.Path.{_≡_, refl, sym, _∙_, subst}
+use mathlib.Core.Path.{_≡_, refl, sym, _∙_, ap, subst}
 use Prim.Native.Nat.{_+_, _<_, _≤_}
 use native.Mathlib.Omega.{arith}
 use lib.ListN.{length}
+use Rattle.trial.proofs.Restoring.{put-back}
 use Rattle.sameness.proofs.Overs.{going-none, going-more, going-fails, going-all, over-unequal, both-first, both-then, first-unequal, first-fails, first-holds, not-exchanged, few-operands, exchanged}
-use Rattle.sameness.specs.Walking.{KindsWalked}
-use Rattle.sameness.proofs.Asking.{operands, binding-low, local-low}
+use Rattle.sameness.specs.Walking.{KindsWalked, FirstFails}
+use Rattle.sameness.proofs.Asking.{operands, binding-low, local-low, ready-of, ready-again}
 use Rattle.sameness.proofs.Walks.{same-trees, from-same, kinds-unequal, kinds-other, kinds-fail, kinds-plain, kinds-by, kinds-bound, kinds-taken, kinds-local}
 use Rattle.sameness.proofs.eq.+both+eq_binary+eq_block+eq_const_arg+eq_expr+eq_node+eq_part+eq_pat+eq_qpath+eq_reversed+eq_stmt+eq_ty+over.Needs as need
 
@@ -132,3 +133,65 @@ pub over-returns : need.over-returns
 over-returns t c =
     let e : c .loop-q .q ≡ c .args .l .kids = omega (arith, c .loop-q-test .left, c .loop-q .kept .q-end) in
     going-all _ _ _ _ _ _ _ e (omega (arith, e, c .if-l-r .left)) (c .loop-q .inv)
+
+pub eq-node-eq-expr-requires : need.eq-node-eq-expr-requires
+eq-node-eq-expr-requires t c κs = (omega (arith, c .measured), (ready-of _ _ _ _ _ _ _ _ _ (c .pre) (c .reduce-exprkind-l .ensures .held) (c .reduce-exprkind-r .ensures .held), ((λ e. omega arith), (λ e. omega arith))))
+
+pub eq-node-eq-pat-requires : need.eq-node-eq-pat-requires
+eq-node-eq-pat-requires t c κs = (omega (arith, c .measured), (ready-of _ _ _ _ _ _ _ _ _ (c .pre) (c .reduce-exprkind-l .ensures .held) (c .reduce-exprkind-r .ensures .held), ((λ e. omega arith), (λ e. omega arith))))
+
+pub eq-node-eq-ty-requires : need.eq-node-eq-ty-requires
+eq-node-eq-ty-requires t c κs = (omega (arith, c .measured), (ready-of _ _ _ _ _ _ _ _ _ (c .pre) (c .reduce-exprkind-l .ensures .held) (c .reduce-exprkind-r .ensures .held), ((λ e. omega arith), ((λ e. omega arith), (λ e. omega arith)))))
+
+pub eq-node-eq-qpath-requires : need.eq-node-eq-qpath-requires
+eq-node-eq-qpath-requires t c κs = (omega (arith, c .measured), (ready-of _ _ _ _ _ _ _ _ _ (c .pre) (c .reduce-exprkind-l .ensures .held) (c .reduce-exprkind-r .ensures .held), ((λ e. omega arith), (λ e. omega arith))))
+
+pub eq-node-eq-const-arg-requires : need.eq-node-eq-const-arg-requires
+eq-node-eq-const-arg-requires t c κs = (omega (arith, c .measured), (ready-of _ _ _ _ _ _ _ _ _ (c .pre) (c .reduce-exprkind-l .ensures .held) (c .reduce-exprkind-r .ensures .held), ((λ e. omega arith), ((λ e. omega arith), (λ e. omega arith)))))
+
+pub eq-node-eq-block-requires : need.eq-node-eq-block-requires
+eq-node-eq-block-requires t c κs = (omega (arith, c .measured), (ready-of _ _ _ _ _ _ _ _ _ (c .pre) (c .reduce-exprkind-l .ensures .held) (c .reduce-exprkind-r .ensures .held), ((λ e. omega arith), ((λ e. omega arith), (λ e. omega arith)))))
+
+pub eq-node-eq-stmt-requires : need.eq-node-eq-stmt-requires
+eq-node-eq-stmt-requires t c κs = (omega (arith, c .measured), (ready-of _ _ _ _ _ _ _ _ _ (c .pre) (c .reduce-exprkind-l .ensures .held) (c .reduce-exprkind-r .ensures .held), ((λ e. omega arith), ((λ e. omega arith), (λ e. omega arith)))))
+
+pub eq-node-returns-in-10-to-36 : need.eq-node-returns-in-10-to-36
+eq-node-returns-in-10-to-36 t c = same-trees _ _ _ _ _ _ _ (c .reduce-exprkind-l .ensures .tree) (c .reduce-exprkind-r .ensures .tree) (c .eq-expr .ensures)
+
+pub eq-node-returns-in-40-to-50 : need.eq-node-returns-in-40-to-50
+eq-node-returns-in-40-to-50 t c = same-trees _ _ _ _ _ _ _ (c .reduce-exprkind-l .ensures .tree) (c .reduce-exprkind-r .ensures .tree) (c .eq-pat .ensures)
+
+pub eq-node-returns-in-60-to-67 : need.eq-node-returns-in-60-to-67
+eq-node-returns-in-60-to-67 t c = same-trees _ _ _ _ _ _ _ (c .reduce-exprkind-l .ensures .tree) (c .reduce-exprkind-r .ensures .tree) (c .eq-ty .ensures)
+
+pub eq-node-returns-in-70-to-71 : need.eq-node-returns-in-70-to-71
+eq-node-returns-in-70-to-71 t c = same-trees _ _ _ _ _ _ _ (c .reduce-exprkind-l .ensures .tree) (c .reduce-exprkind-r .ensures .tree) (c .eq-qpath .ensures)
+
+pub eq-node-returns-in-80-to-84 : need.eq-node-returns-in-80-to-84
+eq-node-returns-in-80-to-84 t c = same-trees _ _ _ _ _ _ _ (c .reduce-exprkind-l .ensures .tree) (c .reduce-exprkind-r .ensures .tree) (c .eq-const-arg .ensures)
+
+pub eq-node-returns-in-94 : need.eq-node-returns-in-94
+eq-node-returns-in-94 t c = same-trees _ _ _ _ _ _ _ (c .reduce-exprkind-l .ensures .tree) (c .reduce-exprkind-r .ensures .tree) (c .eq-block .ensures)
+
+pub eq-node-returns-in-95-to-97 : need.eq-node-returns-in-95-to-97
+eq-node-returns-in-95-to-97 t c = same-trees _ _ _ _ _ _ _ (c .reduce-exprkind-l .ensures .tree) (c .reduce-exprkind-r .ensures .tree) (c .eq-stmt .ensures)
+
+pub eq-node-returns-in-rest : need.eq-node-returns-in-rest
+eq-node-returns-in-rest t c = same-trees _ _ _ _ _ _ _ (c .reduce-exprkind-l .ensures .tree) (c .reduce-exprkind-r .ensures .tree) (c .eq-part .ensures)
+
+pub eq-binary-eq-reversed-requires-2 : need.eq-binary-eq-reversed-requires-2
+eq-binary-eq-reversed-requires-2 t c κs =
+    let k : c .drop-trial-2 .last .self .0 ≡ c .args .t .now =
+    put-back (c .of-before .result .bits) (c .args .t .now) (c .over .last .t) (c .drop-trial-2 .last .self .0) (c .of-before .ensures) (c .over .ensures .grows) (c .drop-trial-2 .ensures .restores refl) in (
+      omega (arith, c .measured),
+      (
+        ready-again (c .args .t .now) (c .args .a .words .now) (c .args .a .at .now) (c .args .b .words .now) (c .args .b .at .now) (c .args .i) (c .args .j) (c .args .l) (c .args .r) (c .pre .0) (c .drop-trial-2 .last .self .0) (ap length k),
+        (c .pre .1, subst (λ z. FirstFails (c .args .a .words .now) (c .args .l) (c .args .b .words .now) (c .args .r) z) (sym k) (first-fails (c .args .a .words .now) (c .args .l) (c .args .b .words .now) (c .args .r) (c .args .t .now) (c .over .last .t) (sym (c .if-not-eq-words .ensures tt)) (c .if-over .ensures tt))),
+      ),
+    )
+
+pub eq-binary-returns : need.eq-binary-returns
+eq-binary-returns t c =
+    let k : c .drop-trial-2 .last .self .0 ≡ c .args .t .now =
+    put-back (c .of-before .result .bits) (c .args .t .now) (c .over .last .t) (c .drop-trial-2 .last .self .0) (c .of-before .ensures) (c .over .ensures .grows) (c .drop-trial-2 .ensures .restores refl) in
+    from-same _ _ _ _ _ k (c .eq-reversed-2 .ensures)
