@@ -1,0 +1,3 @@
+pub mod Words
+pub mod Rotating
+pub mod Fnv1a
