@@ -9,11 +9,11 @@ use Rattle.std.specs.declared.option.Option.{Option}
 use Rattle.std.specs.declared.option.Option.the-variants.{Some, None}
 use Rattle.std.specs.declared.result.Result.{Result}
 use Rattle.std.specs.declared.result.Result.the-variants.{Ok, Err}
-use Rattle.rule.specs.declared.fault.Fault.{Fault}
 use Rattle.rule.specs.Faults.{numberOf}
 use Rattle.rule.specs.Intake as intake
 use Rattle.rule.specs.Trees.{treeOf}
 use Rattle.sameness.specs.Sameness.{Same}
+use Rattle.sameness.specs.Comparing.{Sound}
 use Rattle.sameness.specs.declared.compare.CompareFault.{CompareFault}
 use Rattle.sameness.specs.declared.compare.CompareFault.the-variants.{First, Second, PairTable}
 use Rattle.judge.specs.declared.outcome.Kind as kind
@@ -52,10 +52,6 @@ answered (Ok false) = Some Convert
 answered (Err (First fault)) = Some (Refused Old fault)
 answered (Err (Second fault)) = Some (Refused New fault)
 answered (Err PairTable) = None
-
--- no ground of refusal from 1 to 6 is met
-abbrev pub Sound : List ℕ → Type 0
-Sound ws = (f : Fault) → numberOf f ≤ 6 → intake.Passes f ws
 
 -- the outcome of a rule that is in one table alone: refused by the first ground from 1 to 6 that it meets, or gone or new
 abbrev pub SoleAs : Side → List ℕ → Outcome → Type 0
