@@ -1,4 +1,7 @@
 // What the arguments of the program ask for.
+
+#![tactic(auto)]
+
 pub mod command;
 pub mod files;
 pub mod hashed;

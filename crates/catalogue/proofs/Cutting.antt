@@ -1,12 +1,12 @@
 -- After a cut the first entries are stored as they were.
-use Rattle.std.proofs.Common.{◌≡◌, ℕ, ◌+◌, ◌<◌, ◌≤◌, min, Bool, cond, ltb, List, [], length, take, sym, ap, ◌∙◌, subst, inl, inr, arith, length-take-le, take_all, get_or-take, take-take, le-ltb, lt-ltb}
+use Rattle.std.proofs.Common.{◌≡◌, ℕ, ◌<◌, ◌≤◌, Bool, cond, ltb, List, [], length, take, sym, ap, ◌∙◌, subst, inl, inr, arith, length-take-le, take_all, get_or-take, take-take, le-ltb, lt-ltb}
 use Rattle.std.proofs.lemmas.Bool.{cases_lt}
 use Rattle.catalogue.specs.declared.record.Slot.{Slot}
 use Rattle.catalogue.specs.Calls.{CutTo}
 use Rattle.catalogue.specs.Classes.{entry, Begun, ClassOf}
 use Rattle.catalogue.specs.Kinds.{Sense, Sound}
 use Rattle.catalogue.specs.Model.{total}
-use Rattle.catalogue.specs.States.{State, slot_at, run_of, run_at, class_at}
+use Rattle.catalogue.specs.States.{State, slot_at, run_of, run_at}
 use Rattle.catalogue.proofs.Numbering.{begun-like, class-like}
 use Rattle.catalogue.proofs.Stored.{Says, Stored, begun-few, total-take}
 

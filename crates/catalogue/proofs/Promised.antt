@@ -1,5 +1,5 @@
 -- The promise, for a kind whose sameness is an equivalence of its sound runs.
-use Rattle.std.proofs.Common.{◌≡◌, ℕ, ◌<◌, List, length, sym, refl, ◌∙◌, subst, subst₂, arith}
+use Rattle.std.proofs.Common.{◌≡◌, ℕ, ◌<◌, List, length, sym, ◌∙◌, subst, subst₂, arith}
 use Rattle.catalogue.specs.Kinds.{Sense, sense}
 use Rattle.catalogue.specs.Classes.{Begun, ClassOf}
 use Rattle.catalogue.specs.Model.{Event, calls, Stands}

@@ -2,9 +2,8 @@
 use Rattle.std.proofs.Common.{◌≡◌, ℕ, List, [], ◌∷◌, ◌++◌, length, take, Ok, Err, sym, refl, ap, ◌∙◌, subst, subst₂, arith}
 use Rattle.catalogue.specs.declared.record.Slot.{Slot}
 use Rattle.catalogue.specs.Calls.{EnterRefused}
-use Rattle.catalogue.specs.Classes.{Begun}
 use Rattle.catalogue.specs.Kinds.{Sense}
-use Rattle.catalogue.specs.Model.{Event, entering, finding, cutting, total, Answers, Stands}
+use Rattle.catalogue.specs.Model.{Event, entering, finding, cutting, Answers, Stands}
 use Rattle.catalogue.specs.Promise.{Step, Reached}
 use Rattle.catalogue.specs.States.{Numbers, State, state_of}
 use Rattle.catalogue.proofs.Cutting.{cut-stored}

@@ -1,18 +1,14 @@
 -- The record and the memory of a state hold the runs of a row, and what the calls do to them.
-use Rattle.std.proofs.Common.{◌≡◌, ℕ, zero, suc, ◌+◌, ◌<◌, ◌≤◌, min, Bool, cond, ltb, ◌≢◌, List, [], ◌∷◌, ◌++◌, length, take, set, Some, None, Option, sym, refl, ap, ◌∙◌, subst, subst₂, inl, inr, arith, length-set, length-take-le, take_all, get_or-set_other, get_or-take, get_or-set_same, take-take, below_more, le-ltb, lt-ltb}
-use lib.Seq.{paste, length-paste, take-append-le}
-use Rattle.std.proofs.lemmas.List.{length-append, get_or_append_left, get_or-append-add}
-use Rattle.std.proofs.lemmas.Bool.{cases_lt}
+use Rattle.std.proofs.Common.{◌≡◌, ℕ, zero, suc, ◌+◌, ◌<◌, ◌≤◌, List, [], ◌∷◌, ◌++◌, length, take, Some, None, Option, sym, ap, ◌∙◌, subst, inl, inr, arith}
 use Rattle.catalogue.specs.declared.record.Slot.{Slot}
-use Rattle.catalogue.specs.Calls.{EnterGranted, Classed, Placed, CutTo}
+use Rattle.catalogue.specs.Calls.{Classed}
 use Rattle.catalogue.specs.Classes.{entry, FirstSame, Begun, ClassOf}
 use Rattle.catalogue.specs.Kinds.{Sense, Sound}
 use Rattle.catalogue.specs.Model.{total}
 use Rattle.catalogue.specs.Promise.{Holds}
-use Rattle.catalogue.specs.States.{State, Intact, FirstAt, slot_at, no_slot, run_of, run_at, class_at}
+use Rattle.catalogue.specs.States.{State, Intact, FirstAt, slot_at, class_at}
 use Rattle.catalogue.proofs.Lawful.{Lawful}
-use Rattle.catalogue.proofs.Numbering.{begun-like, class-like, new-class, old-class}
-use Rattle.catalogue.proofs.Pasted.{earlier-kept, pasted-there}
+use Rattle.catalogue.proofs.Numbering.{new-class, old-class}
 
 ---- rows
 

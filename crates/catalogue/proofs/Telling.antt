@@ -5,7 +5,7 @@ use Rattle.catalogue.specs.declared.fault.Fault.{Fault}
 use Rattle.catalogue.specs.declared.fault.Fault.TheVariants.{Input, NoSlot, NoUnits, NotStanding}
 use Rattle.catalogue.specs.declared.fault.InputFault.{InputFault}
 use Rattle.catalogue.specs.declared.record.Entered.{Entered}
-use Rattle.catalogue.specs.Calls.{SlotFree, EnterGranted, EnterRefused, FindRefused}
+use Rattle.catalogue.specs.Calls.{SlotFree, EnterRefused, FindRefused}
 use Rattle.catalogue.specs.Classes.{First, ClassOf}
 use Rattle.catalogue.specs.Kinds.{Sense, Sound, FirstMet}
 use Rattle.catalogue.specs.Model.{Event, entering, finding, cutting, call, calls, total, Answers, Stands}

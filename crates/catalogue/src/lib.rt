@@ -1,3 +1,5 @@
+#![tactic(auto)]
+
 pub mod asking;
 pub mod calls;
 pub mod fault;

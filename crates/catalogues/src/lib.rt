@@ -1,4 +1,7 @@
 // Catalogues of names on many cases, under both hashers.
+
+#![tactic(auto)]
+
 #[cfg(test)]
 mod histories;
 #[cfg(test)]

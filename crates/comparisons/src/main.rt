@@ -1,4 +1,7 @@
 // Comparing on a list of cases: each two rules of the input are compared, and the answer is printed with the renaming.
+
+#![tactic(auto)]
+
 use sameness::compare::{CompareFault, compare};
 use std::io;
 use std::io::Read;

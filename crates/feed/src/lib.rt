@@ -1,3 +1,5 @@
+#![tactic(auto)]
+
 ghost use Rattle.feed.specs.Laws.{HashLaw, OneHash};
 
 pub mod hash;

@@ -2,6 +2,9 @@
 //
 // The hashes that are expected were worked out by a script that is not part of this repository. It was written from the
 // definition of reduction, feed and hashers in docs/, and shares no code with what is tested.
+
+#![tactic(auto)]
+
 use feed::hash::hash_rule;
 use hashing::fnv1a::Fnv1a;
 use hashing::rotating::Rotating;

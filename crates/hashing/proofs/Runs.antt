@@ -1,5 +1,5 @@
 -- Words fed one by one are their bytes in one run.
-use Rattle.std.proofs.Common.{◌≡◌, ℕ, List, [], ◌∷◌, ◌++◌, sym, refl, ap, ◌∙◌}
+use Rattle.std.proofs.Common.{◌≡◌, ℕ, List, [], ◌∷◌, ◌++◌, sym, refl, ◌∙◌}
 use Rattle.hashing.specs.Words.{fed_all}
 use Rattle.hashing.specs.Fnv1a.{fnv1a_byte, fnv1a_from, fnv1a_word, le_bytes, le_bytes_of}
 use Rattle.hashing.specs.declared.fnv1a.Fnv1a.{Fnv1a}

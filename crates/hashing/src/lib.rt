@@ -1,4 +1,7 @@
 // Hashers of 64-bit words: the interface, a word-wise hasher and a byte-wise one.
+
+#![tactic(auto)]
+
 pub mod fnv1a;
 pub mod hasher;
 pub mod named;

@@ -3,6 +3,9 @@
 //
 // The answers that are expected come from a model that is not part of this repository: a list of rules of which it is known
 // which are the same, since each was made from another by renaming, reversing and wrapping.
+
+#![tactic(auto)]
+
 use catalogue::record::{Catalogue, Slot};
 use hashing::fnv1a::Fnv1a;
 use hashing::hasher::Hasher;

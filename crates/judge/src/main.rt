@@ -1,8 +1,12 @@
 // judge: says of each rule of a table whether it can be judged, of rules whether they are the same,
 // and shows their hashes and classes.
+
+#![tactic(auto)]
+
 use arguments::command;
 use arguments::command::{Command, parse_args};
 use source::Trouble;
+use std::process::ExitCode;
 use std::{env, fmt};
 
 mod change;
@@ -14,11 +18,7 @@ mod place;
 mod replay;
 mod source;
 
-// What went wrong is on standard error by then.
-#[derive(Drop)]
-pub struct Failed;
-
-fn main(rt: HostRuntime) -> Result<(), Failed> {
+fn main(rt: HostRuntime) -> ExitCode {
     let Ok(args) = env::args(&rt) else {
         return fail(&rt, "expected arguments that are UTF-8 text");
     };
@@ -27,7 +27,7 @@ fn main(rt: HostRuntime) -> Result<(), Failed> {
     };
     match parse_args(args.as_slice()) {
         Ok(command) => match perform(&rt, command) {
-            Ok(()) => Ok(()),
+            Ok(()) => ExitCode::SUCCESS,
             Err(trouble) => fail(&rt, &trouble),
         },
         Err(misuse) => {
@@ -52,7 +52,8 @@ fn perform<'a>(rt: &HostRuntime, command: Command<'a>) -> Result<(), Trouble<'a>
     }
 }
 
-fn fail<D: fmt::Display + Drop>(rt: &HostRuntime, what: D) -> Result<(), Failed> {
+// Says on standard error what went wrong.
+fn fail<D: fmt::Display + Drop>(rt: &HostRuntime, what: D) -> ExitCode {
     let _ = rt.eprintln(what);
-    Err(Failed)
+    ExitCode::FAILURE
 }

@@ -1,5 +1,5 @@
 -- What comparing two sound rules cannot answer.
-use Rattle.std.proofs.Common.{◌≡◌, ℕ, ◌≤◌, List, length, Err, refl, arith}
+use Rattle.std.proofs.Common.{ℕ, ◌≤◌, List, length, Err, refl, arith}
 use Rattle.rule.specs.Faults.{number_of}
 use Rattle.sameness.specs.declared.compare.CompareFault.{CompareFault}
 use Rattle.sameness.specs.declared.compare.CompareFault.TheVariants.{First, Second, PairTable}

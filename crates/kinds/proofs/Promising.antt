@@ -1,11 +1,9 @@
 -- Of two standing rules, "the same" is that they are renamable.
-use Rattle.std.proofs.Common.{◌≡◌, ℕ, ◌<◌, List, length, sym, subst, subst₂, arith}
-use Rattle.rule.specs.Trees.{tree_of}
-use Rattle.catalogue.specs.Classes.{entry}
+use Rattle.std.proofs.Common.{ℕ, ◌<◌, List, length, sym, subst₂, arith}
 use Rattle.catalogue.specs.Kinds.{SoundBy}
 use Rattle.catalogue.specs.Model.{Event}
 use Rattle.catalogue.specs.Promise.{Promise}
-use Rattle.catalogue.specs.States.{State, run_at, class_at}
+use Rattle.catalogue.specs.States.{State}
 use Rattle.kinds.specs.Rules.{Renamable, RulePromise, meets_rule, rules, same_rule}
 use Rattle.kinds.specs.Cleaned.{clean-rule}
 

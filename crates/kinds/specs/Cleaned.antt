@@ -1,10 +1,10 @@
 -- The tree of a sound rule has no code that is the same as nothing, so a sound rule is the same as itself.
 use Rattle.std.specs.Prelude.{◌≡◌, ℕ, zero, suc, ◌+◌, ◌-◌, ◌<◌, Bool, true, false, not, ◌&&◌, List, ◌≢◌, slice_index, slice_index_or, refl}
-use Rattle.std.proofs.Common.{sym, ap, subst, ◌∙◌, arith}
+use Rattle.std.proofs.Common.{ap, subst, ◌∙◌, arith}
 use Rattle.rule.specs.declared.fault.Fault.TheVariants.{CutShort, NotATree, SameAsNothing}
 use Rattle.rule.specs.Intake.{Whole, Treelike, Comparable, barred, nodes, offset}
-use Rattle.rule.specs.Run.{offsets, code_at, kids_at, kid_at}
-use Rattle.rule.specs.Trees.{Tree, Forest, node, nil, cons, stub, kids_of, node_of, trees_of, tree_at, tree_of}
+use Rattle.rule.specs.Run.{code_at, kids_at, kid_at}
+use Rattle.rule.specs.Trees.{stub, kids_of, node_of, trees_of, tree_at, tree_of}
 use Rattle.rule.proofs.Grown.{tree-at}
 use Rattle.rule.proofs.Laid.{node-some}
 use Rattle.sameness.specs.Sameness.{clean, clean_all}

@@ -1,2 +1,4 @@
+#![tactic(auto)]
+
 pub mod names;
 pub mod rules;

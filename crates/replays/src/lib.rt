@@ -1,3 +1,6 @@
 // Performs the calls of a script on a catalogue.
+
+#![tactic(auto)]
+
 pub mod answer;
 pub mod perform;

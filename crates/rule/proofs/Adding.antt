@@ -1,9 +1,9 @@
 -- The children of a node counted as seen, one after the other.
-use Rattle.std.proofs.Common.{◌≡◌, ℕ, ◌+◌, ◌-◌, ◌<◌, ◌≤◌, ◌≢◌, ◌⊎◌, List, length, get_or, set, sym, refl, ap, ◌∙◌, subst, inl, inr, ⊎_elim, arith, below_none, below_more}
+use Rattle.std.proofs.Common.{◌≡◌, ℕ, ◌+◌, ◌-◌, ◌<◌, List, length, get_or, set, sym, refl, ap, ◌∙◌, ⊎_elim, arith, below_none, below_more}
 use Rattle.std.proofs.lemmas.Bool.{cases_eq}
 use Rattle.std.proofs.lemmas.List.{get_or-set_same, get_or-set_other}
 use Rattle.rule.specs.Run.{standing, kids_at, kid_at}
-use Rattle.rule.specs.Tally.{sizes_of, loose, AtMostOnce, Added, Clash, high, twice}
+use Rattle.rule.specs.Tally.{sizes_of, loose, AtMostOnce, Added, Clash, twice}
 use Rattle.rule.proofs.Counting.{hit, hit_same, hit_other, standing-more, sizes-more, standing-end, sizes-end, loose-taken}
 
 -- after q of the children of the node i, which begins at o

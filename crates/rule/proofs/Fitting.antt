@@ -1,5 +1,5 @@
 -- What the rows of a node and of its children say of them.
-use Rattle.std.proofs.Common.{◌≡◌, ℕ, ◌+◌, ◌<◌, ◌≤◌, Bool, true, false, not, List, length, get_or, Some, None, Option, sym, refl, ap, ◌∙◌, subst, arith}
+use Rattle.std.proofs.Common.{◌≡◌, ℕ, ◌<◌, Bool, true, false, List, length, get_or, Some, None, Option, sym, ap, ◌∙◌, subst, arith}
 use Rattle.std.proofs.lemmas.Bool.{both_ways}
 use Rattle.rule.specs.declared.rows.Row.{Row}
 use Rattle.rule.specs.declared.rows.Class.{Class}
@@ -7,7 +7,7 @@ use Rattle.rule.specs.declared.rows.Place.{Place}
 use Rattle.rule.specs.Format.{admits}
 use Rattle.rule.specs.Lookup.{enough, place_of}
 use Rattle.rule.specs.Run.{kids_at, kid_at}
-use Rattle.rule.specs.Intake.{Read, Worded, Treelike, KidsFit, KidsPass, nodes, offset, row_at, class_at, class_in}
+use Rattle.rule.specs.Intake.{Read, Treelike, KidsFit, KidsPass, nodes, offset, row_at, class_at, class_in}
 use Rattle.rule.proofs.Laid.{read-nodes, read-offset}
 
 some_inj : (r s : Row) (o : Option Row) → o ≡ Some r → o ≡ Some s → r ≡ s

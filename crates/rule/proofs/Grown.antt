@@ -1,8 +1,8 @@
 -- The tree at a number is the node at its place, over the trees at its children's numbers.
-use Rattle.std.proofs.Common.{◌≡◌, ℕ, zero, suc, ◌+◌, ◌<◌, ◌≤◌, List, [], ◌∷◌, ◌++◌, length, get_or, sym, refl, ap, ◌∙◌, subst, arith}
+use Rattle.std.proofs.Common.{◌≡◌, ℕ, zero, suc, ◌+◌, ◌<◌, List, [], ◌∷◌, ◌++◌, length, get_or, sym, refl, ap, ◌∙◌, subst, arith}
 use Rattle.std.proofs.lemmas.List.{get_or_append_left, get_or_push, length_push}
 use Rattle.rule.specs.Run.{offsets, kids_at, kid_at, code_at, v_at, w_at}
-use Rattle.rule.specs.Trees.{Tree, Forest, node, nil, cons, stub, kids_of, node_of, grow, trees_of, tree_at}
+use Rattle.rule.specs.Trees.{Tree, node, stub, kids_of, node_of, grow, trees_of, tree_at}
 use Rattle.rule.specs.Intake.{Read, Treelike, nodes, offset}
 use Rattle.rule.specs.Marks.{size, size_all}
 use Rattle.rule.specs.Tally.{sizes_of}

@@ -1,5 +1,5 @@
 -- What the walk of the whole rule says of its scopes.
-use Rattle.std.proofs.Common.{◌≡◌, ℕ, ◌+◌, ◌-◌, ◌<◌, ◌≤◌, List, length, get_or, Ok, Err, Result, sym, refl, ap, ◌∙◌, subst, arith, MatchResult}
+use Rattle.std.proofs.Common.{◌≡◌, ℕ, ◌-◌, ◌<◌, ◌≤◌, List, length, get_or, Ok, Err, Result, ap, subst, arith, MatchResult}
 use Rattle.rule.specs.declared.fault.Fault.{Fault}
 use Rattle.rule.specs.declared.fault.Fault.TheVariants.{BadScope}
 use Rattle.rule.specs.Trees.{Tree, tree_at, tree_of}

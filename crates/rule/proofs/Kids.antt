@@ -1,6 +1,6 @@
 -- What is known of a child while the walk of its node goes on.
-use Rattle.std.proofs.Common.{◌≡◌, ℕ, ◌+◌, ◌<◌, ◌≤◌, Bool, true, false, List, length, get_or, sym, refl, ap, ◌∙◌, subst, arith}
-use Rattle.rule.specs.Run.{kids_at, kid_at}
+use Rattle.std.proofs.Common.{◌≡◌, ℕ, ◌+◌, ◌<◌, ◌≤◌, Bool, true, false, List, length, get_or, arith}
+use Rattle.rule.specs.Run.{kids_at}
 use Rattle.rule.specs.Trees.{tree_at}
 use Rattle.rule.specs.Marks.{size, end_of}
 use Rattle.rule.specs.Intake.{Read, Treelike, nodes}

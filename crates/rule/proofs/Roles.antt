@@ -1,10 +1,10 @@
 -- What a node's words do to the marks, and the walk of a node child by child.
-use Rattle.std.proofs.Common.{◌≡◌, ℕ, zero, suc, ◌+◌, ◌-◌, ◌<◌, ◌≤◌, Bool, true, false, cond, ◌&&◌, eqb, ◌⊎◌, List, [], ◌∷◌, length, get_or, Ok, Err, Result, sym, refl, ap, ◌∙◌, subst, inl, inr, arith}
+use Rattle.std.proofs.Common.{◌≡◌, ℕ, suc, ◌+◌, ◌-◌, ◌<◌, ◌≤◌, Bool, ◌&&◌, eqb, ◌⊎◌, List, length, get_or, Result, sym, ap, ◌∙◌, subst, inl, inr, arith}
 use Rattle.std.proofs.lemmas.Bool.{eq-eqb, ne_eqb, cond-true, cond-false, and_left, and_right, and_from}
 use Rattle.rule.specs.declared.fault.Fault.{Fault}
 use Rattle.rule.specs.Run.{kids_at, code_at, v_at, w_at}
-use Rattle.rule.specs.Trees.{Tree, Forest, node, nil, cons, stub, kids_of, node_of, trees_of, tree_at}
-use Rattle.rule.specs.Scopes.{Role, declares, uses, plain, role, compares}
+use Rattle.rule.specs.Trees.{Tree, nil, cons, stub, kids_of, node_of, trees_of, tree_at}
+use Rattle.rule.specs.Scopes.{declares, uses, plain, role, compares}
 use Rattle.rule.specs.Marks.{size, size_all, steps, steps_all, end_of, Marked, broken, marked, and_then, at_declaration, at_use, note, note_all, Says}
 use Rattle.rule.proofs.Noted.{note-node, note-cons}
 

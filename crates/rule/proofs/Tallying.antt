@@ -1,13 +1,13 @@
 -- The nodes of a run found to be a tree, one after the other.
-use Rattle.std.proofs.Common.{◌≡◌, ℕ, ◌+◌, ◌-◌, ◌<◌, ◌≤◌, ◌≢◌, ◌⊎◌, List, [], length, get_or, drop, set, replicate, sym, refl, ap, ◌∙◌, subst, inl, inr, ⊎_elim, arith, length-set, below_none, below_more}
-use Rattle.std.proofs.lemmas.Bool.{cases_eq, cases_lt}
+use Rattle.std.proofs.Common.{◌≡◌, ℕ, ◌+◌, ◌-◌, ◌<◌, ◌≤◌, ◌≢◌, List, length, get_or, drop, set, sym, ap, ◌∙◌, subst, ⊎_elim, arith, length-set, below_none, below_more}
+use Rattle.std.proofs.lemmas.Bool.{cases_eq}
 use Rattle.std.proofs.lemmas.List.{get_or-set_same, get_or-set_other}
-use Rattle.rule.specs.Run.{standing, child_of, kids_at, kid_at, offsets}
+use Rattle.rule.specs.Run.{child_of, kids_at, kid_at, offsets}
 use Rattle.rule.specs.Trees.{tree_at}
 use Rattle.rule.specs.Marks.{size}
 use Rattle.rule.specs.Intake.{Read, Treelike, nodes, offset}
 use Rattle.rule.specs.Tally.{loose, sizes_of, AtMostOnce, Added, Clash, high, twice, Sized}
-use Rattle.rule.proofs.Counting.{child-more, child-end, standing-none, loose-sized, loose-zero, zeros}
+use Rattle.rule.proofs.Counting.{child-more, child-end, standing-none, loose-sized, loose-zero}
 use Rattle.rule.proofs.Grown.{size-at}
 use Rattle.rule.proofs.Laid.{read-nodes, read-offset}
 

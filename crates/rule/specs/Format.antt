@@ -1,5 +1,5 @@
 -- The rows of the format: for each code, which words v and w may be and which children the node has.
-use Rattle.std.specs.Prelude.{ℕ, zero, suc, ◌-◌, Bool, true, false, cond, ◌&&◌, ◌||◌, List, [], ◌∷◌, ◌++◌, length, ◌==◌, nat_le}
+use Rattle.std.specs.Prelude.{ℕ, Bool, false, ◌&&◌, ◌||◌, List, [], ◌∷◌, length, ◌==◌, nat_le}
 use Rattle.rule.specs.declared.rows.Class.{Class}
 use Rattle.rule.specs.declared.rows.Class.TheVariants.{Absent, Expr, Pat, EndPat, Ty, QPath, Segment, Const, Lit, Block, Stmt, Arm, ExprField, PatField}
 use Rattle.rule.specs.declared.rows.Span.{Span}

@@ -1,7 +1,7 @@
 -- The row of a node, and what helps to find it.
-use Rattle.std.specs.Prelude.{ℕ, suc, ◌+◌, ◌-◌, Bool, true, false, cond, ◌&&◌, List, [], ◌∷◌, take, drop, Some, None, Option, ◌==◌, nat_le, nat_lt}
+use Rattle.std.specs.Prelude.{ℕ, ◌+◌, Bool, true, false, cond, ◌&&◌, List, [], ◌∷◌, take, drop, Some, None, Option, ◌==◌, nat_le, nat_lt}
 use Rattle.rule.specs.declared.rows.Class.{Class}
-use Rattle.rule.specs.declared.rows.Class.TheVariants.{Absent, Expr, Pat, Ty, Block}
+use Rattle.rule.specs.declared.rows.Class.TheVariants.{Expr, Pat, Ty, Block}
 use Rattle.rule.specs.declared.rows.Place.{Place}
 use Rattle.rule.specs.declared.rows.Place.TheVariants.{Nothing, One, Maybe, Either}
 use Rattle.rule.specs.declared.rows.Front.{Front}

@@ -1,6 +1,6 @@
 -- What the walk notes of each local, by one number: 0 before it is met; where it is declared, the place in the walk at which
 -- the innermost operand of a comparison around the declaration ends (or the whole walk); 65535 where it is used and not declared before.
-use Rattle.std.specs.Prelude.{◌≡◌, ℕ, suc, ◌+◌, ◌<◌, Bool, true, false, cond, List, [], ◌∷◌, ◌++◌, length, Ok, Err, Result, ◌==◌, nat_lt, slice_index, slice_set}
+use Rattle.std.specs.Prelude.{◌≡◌, ℕ, ◌+◌, Bool, true, false, cond, List, [], ◌∷◌, ◌++◌, Ok, Err, Result, ◌==◌, nat_lt, slice_index, slice_set}
 use Rattle.rule.specs.declared.fault.Fault.{Fault}
 use Rattle.rule.specs.declared.fault.Fault.TheVariants.{BadScope}
 use Rattle.rule.specs.Trees.{Tree, Forest, node, nil, cons}

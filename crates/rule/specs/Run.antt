@@ -1,5 +1,5 @@
 -- A run of words as nodes. A node is: code, v, w, n, then n child numbers; nodes are numbered from 0 in run order.
-use Rattle.std.specs.Prelude.{◌≡◌, ℕ, zero, suc, ◌+◌, ◌<◌, Bool, true, false, cond, List, [], ◌∷◌, length, ◌==◌, slice_index, refl}
+use Rattle.std.specs.Prelude.{◌≡◌, ℕ, zero, suc, ◌+◌, cond, List, [], ◌∷◌, ◌==◌, slice_index, refl}
 
 -- how many words of its last node a run lacks, where k words of the node at hand are still to come
 unfoldable pub lacks : ℕ → List ℕ → ℕ

@@ -1,3 +1,5 @@
+#![tactic(auto)]
+
 mod classes;
 pub mod fault;
 pub mod intake;

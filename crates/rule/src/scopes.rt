@@ -92,7 +92,7 @@ fn walk_scopes(
 ) -> Result<(), Fault>
     requires read { (Read rule.words.now rule.at.now) × (i < length rule.at.now) }
     requires treelike { (Treelike rule.words.now) × (Sized rule.words.now sizes.now) }
-    requires i_bound { (place + size (tree_at rule.words.now i) ≤ until) × ((until ≤ 2048) × (length marks.old ≡ 1024)) }
+    requires room { (place + size (tree_at rule.words.now i) ≤ until) × ((until ≤ 2048) × (length marks.old ≡ 1024)) }
     ensures { Says result marks.new (note_all place (steps place until (tree_at rule.entry.words.now i)) marks.old) }
 {
     let p = rule.at[i] as usize;

@@ -1,5 +1,5 @@
 -- What is known of the children and the locals of two kinds that are compared.
-use Rattle.std.proofs.Common.{◌≡◌, ℕ, ◌+◌, ◌<◌, ◌≤◌, Bool, true, false, List, length, get_or, sym, refl, ap, ◌∙◌, subst, arith}
+use Rattle.std.proofs.Common.{◌≡◌, ℕ, ◌+◌, ◌<◌, true, List, length, get_or, sym, refl, ◌∙◌, subst, arith}
 use Rattle.sameness.specs.declared.kind.Kind.{Kind}
 use Rattle.sameness.specs.Deciding.{direct_test}
 use Rattle.sameness.specs.Walking.{Asked, Ready, Held}

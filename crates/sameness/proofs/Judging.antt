@@ -1,15 +1,14 @@
 -- What the walk of two whole rules says of them.
-use Rattle.std.proofs.Common.{◌≡◌, ℕ, ◌+◌, ◌-◌, ◌<◌, ◌≤◌, Bool, true, false, List, ◌++◌, length, get_or, drop, sym, refl, ap, ◌∙◌, subst, arith, length-append, length-drop}
+use Rattle.std.proofs.Common.{◌≡◌, ℕ, ◌+◌, ◌-◌, ◌<◌, ◌≤◌, Bool, true, false, List, ◌++◌, length, get_or, drop, sym, ap, ◌∙◌, subst, arith, length-append, length-drop}
 use Rattle.std.proofs.lemmas.List.{get_or_append_left, get_or-append_right, get_or-drop}
 use Rattle.trial.specs.Table.{Cleared}
 use Rattle.rule.specs.declared.fault.Fault.TheVariants.{NotATree, BadScope}
 use Rattle.rule.specs.Trees.{Tree, tree_at, tree_of}
 use Rattle.rule.specs.Scopes.{SoundScopes}
-use Rattle.rule.specs.Intake.{Read, Treelike, Scoped, nodes}
+use Rattle.rule.specs.Intake.{Read}
 use Rattle.rule.proofs.Laid.{read-nodes, node-some}
 use Rattle.sameness.specs.Reduction.{reduce}
-use Rattle.sameness.specs.Sameness.{Same}
-use Rattle.sameness.specs.Deciding.{Table, blank, Outcome, fails, holds, decide}
+use Rattle.sameness.specs.Deciding.{blank, decide}
 use Rattle.sameness.specs.Walking.{Asked, Low, Pictured, NodesWalked, Walked}
 use Rattle.sameness.specs.Comparing.{Sound, Renamed, Parted, Judged, SameTail}
 use Rattle.sameness.proofs.Shown.{shows-blank}

@@ -1,11 +1,11 @@
 -- The outcome of two nodes, by what their codes are.
-use Rattle.std.proofs.Common.{◌≡◌, ℕ, ◌+◌, ◌<◌, ◌≤◌, Bool, true, false, cond, not, ◌&&◌, ◌||◌, eqb, ◌⊎◌, sym, refl, ap, ◌∙◌, subst, inl, inr, arith}
+use Rattle.std.proofs.Common.{◌≡◌, ℕ, ◌+◌, ◌<◌, ◌≤◌, Bool, true, false, cond, not, ◌&&◌, eqb, ◌⊎◌, sym, refl, ap, ◌∙◌, subst, inl, inr, arith}
 use Rattle.std.proofs.lemmas.Bool.{eq-eqb, ne_eqb, eqb-true, cond-true, cond-false, and_parts, and_left, and_right, and_from, cases_eq, cases_lt}
-use Rattle.rule.specs.Trees.{Tree, Forest, node, nil, cons}
-use Rattle.rule.specs.Scopes.{Role, declares, uses, plain, role, declared, used}
+use Rattle.rule.specs.Trees.{Forest, node}
+use Rattle.rule.specs.Scopes.{declares, uses, plain, role, declared, used}
 use Rattle.rule.specs.Intake.{barred}
-use Rattle.sameness.specs.Sameness.{bare_v, bare_w}
-use Rattle.sameness.specs.Deciding.{Table, Outcome, fails, holds, and_then, or_else, given, direct_test, reverses_test, reversed_test, at_roles, exchanging, decide, decide_all, matched, fresh, add}
+use Rattle.sameness.specs.Sameness.{bare_v}
+use Rattle.sameness.specs.Deciding.{Table, Outcome, fails, holds, and_then, or_else, given, direct_test, reversed_test, at_roles, exchanging, decide, decide_all, matched, fresh, add}
 use Rattle.sameness.proofs.Steps.{decide-node, at_roles-plain}
 
 pub then-holds : (o : Outcome) → and_then o (λ Q. holds Q) ≡ o

@@ -1,14 +1,14 @@
 -- The children of two nodes one by one, and the two readings of a binary expression.
-use Rattle.std.proofs.Common.{◌≡◌, ℕ, zero, suc, ◌+◌, ◌-◌, ◌<◌, ◌≤◌, Bool, true, false, cond, not, ◌&&◌, ◌||◌, ◌⊎◌, List, length, get_or, sym, refl, ap, ◌∙◌, subst, inl, inr, ⊎_elim, arith}
+use Rattle.std.proofs.Common.{◌≡◌, ℕ, zero, suc, ◌+◌, ◌-◌, ◌<◌, Bool, true, false, ◌⊎◌, List, get_or, sym, refl, ap, ◌∙◌, subst, inl, inr, arith}
 use Rattle.trial.specs.Trials.{Extends}
 use Rattle.trial.proofs.Extending.{extends-refl, extends-trans}
-use Rattle.rule.specs.Trees.{Tree, Forest, node, nil, cons, kids_of, trees_of, tree_at}
+use Rattle.rule.specs.Trees.{Forest, nil, cons, kids_of, trees_of, tree_at}
 use Rattle.rule.proofs.Roles.{kids-more, kids-end}
 use Rattle.sameness.specs.declared.kind.Kind.{Kind}
 use Rattle.sameness.specs.Reduction.{reduce, reduce_all}
 use Rattle.sameness.specs.Sameness.{pair}
-use Rattle.sameness.specs.Deciding.{Table, blank, add, Outcome, fails, holds, and_then, or_else, given, direct_test, reversed_test, exchanging, decide, decide_all}
-use Rattle.sameness.specs.Walking.{kids_in, tree_in, Pictured, Answers, Walked, KindsWalked, KidsWalked, NodesWalked, BothWalked, FirstFails}
+use Rattle.sameness.specs.Deciding.{Table, Outcome, fails, holds, and_then, or_else, given, direct_test, reversed_test, exchanging, decide, decide_all}
+use Rattle.sameness.specs.Walking.{kids_in, tree_in, Pictured, Answers, KindsWalked, KidsWalked, NodesWalked, BothWalked, FirstFails}
 use Rattle.sameness.proofs.Outcomes.{two-readings}
 use Rattle.sameness.proofs.Steps.{decide_all-nil, decide_all-cons, decide_all-pair, exchanging-pair, reduce_all-nil, reduce_all-cons}
 

@@ -1,17 +1,14 @@
 -- What the comparing functions answer, put together from what their parts answer.
-use Rattle.std.proofs.Common.{◌≡◌, ℕ, zero, suc, ◌+◌, ◌-◌, ◌<◌, ◌≤◌, Bool, true, false, cond, not, ◌&&◌, ◌||◌, eqb, ◌⊎◌, List, length, get_or, set, sym, refl, ap, ◌∙◌, subst, inl, inr, ⊎_elim, arith}
-use Rattle.std.proofs.lemmas.Bool.{cases_Bool, true≢false, cond-true, cond-false}
+use Rattle.std.proofs.Common.{◌≡◌, ℕ, ◌<◌, ◌≤◌, Bool, true, false, eqb, List, length, sym, ap, ◌∙◌, subst, arith}
+use Rattle.std.proofs.lemmas.Bool.{cond-true, cond-false}
 use Rattle.trial.specs.Table.{paired, unpaired, recorded}
-use Rattle.trial.specs.Trials.{Extends}
 use Rattle.trial.proofs.Recording.{paired-in, unpaired-in, recorded-in}
 use Rattle.trial.proofs.Extending.{extends-refl, extends-trans, unpaired-extends}
-use Rattle.rule.specs.Trees.{Tree, Forest, node, nil, cons, kids_of, trees_of, tree_at}
-use Rattle.rule.specs.Scopes.{role}
+use Rattle.rule.specs.Trees.{Tree}
 use Rattle.sameness.specs.declared.kind.Kind.{Kind}
-use Rattle.sameness.specs.Reduction.{reduce, reduce_all}
-use Rattle.sameness.specs.Deciding.{Table, blank, add, Outcome, fails, holds, and_then, or_else, given, direct_test, reversed_test, at_roles, exchanging, decide, decide_all, matched, fresh, Shows}
-use Rattle.sameness.specs.Walking.{kids_in, tree_in, LowTable, Pictured, Answers, Walked, KindsWalked, KidsWalked, NodesWalked, BothWalked, Not}
-use Rattle.sameness.proofs.Outcomes.{unequal, kids-fail, kids-hold, at_plain, at-binding, at_local, two-readings}
+use Rattle.sameness.specs.Deciding.{Table, add, Outcome, holds, given, direct_test, decide, matched, fresh, Shows}
+use Rattle.sameness.specs.Walking.{Pictured, Answers, Walked, KindsWalked, KidsWalked, Not}
+use Rattle.sameness.proofs.Outcomes.{unequal, kids-fail, kids-hold, at_plain, at-binding, at_local}
 use Rattle.sameness.proofs.Shown.{fresh-shown, matched-shown, shows-set}
 
 ---- answers

@@ -1,5 +1,5 @@
 -- When two rules are the same: some renaming of the locals that they declare makes their reduced trees agree.
-use Rattle.std.specs.Prelude.{◌≡◌, ℕ, ◌<◌, Bool, true, false, cond, not, ◌&&◌, ◌||◌, ◌==◌}
+use Rattle.std.specs.Prelude.{◌≡◌, ℕ, ◌<◌, Bool, true, cond, not, ◌&&◌, ◌||◌, ◌==◌}
 use Rattle.rule.specs.Trees.{Tree, Forest, node, nil, cons}
 use Rattle.rule.specs.Scopes.{Role, declares, uses, plain, role, decls}
 use Rattle.rule.specs.Intake.{barred}

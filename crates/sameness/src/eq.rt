@@ -31,7 +31,7 @@ fn eq_locals(t: &[u32], x: u32, y: u32) -> bool
 }
 
 // Two nodes, as what they come to.
-#[cycle(both_eq_binary_eq_block_eq_const_arg_eq_expr_eq_node_eq_part_eq_pat_eq_qpath_eq_reversed_eq_stmt_eq_ty_over)]
+#[cycle(eq_nodes)]
 pub(crate) fn eq_node(t: &mut [u32], a: Rule, b: Rule, i: usize, j: usize) -> bool
     requires { Asked t.old a.words.now a.at.now b.words.now b.at.now i j }
     ensures { NodesWalked a.entry.words.now i b.entry.words.now j t.old t.new result }
@@ -51,10 +51,10 @@ pub(crate) fn eq_node(t: &mut [u32], a: Rule, b: Rule, i: usize, j: usize) -> bo
 }
 
 // Expressions. Only comparisons are read both ways.
-#[cycle(both_eq_binary_eq_block_eq_const_arg_eq_expr_eq_node_eq_part_eq_pat_eq_qpath_eq_reversed_eq_stmt_eq_ty_over)]
+#[cycle(eq_nodes)]
 fn eq_expr(t: &mut [u32], a: Rule, b: Rule, i: usize, j: usize, l: Kind, r: Kind) -> bool
     requires ready { Ready t.old a.words.now a.at.now b.words.now b.at.now i j l r }
-    requires not { (Not 41 l) × (Not 70 l) }
+    requires excluded { (Not 41 l) × (Not 70 l) }
     ensures { KindsWalked a.entry.words.now l b.entry.words.now r t.old t.new result }
 {
     if l.code == 14 {
@@ -64,10 +64,10 @@ fn eq_expr(t: &mut [u32], a: Rule, b: Rule, i: usize, j: usize, l: Kind, r: Kind
 }
 
 // Binary expressions: as they stand first, and if that fails, with exchanged operands.
-#[cycle(both_eq_binary_eq_block_eq_const_arg_eq_expr_eq_node_eq_part_eq_pat_eq_qpath_eq_reversed_eq_stmt_eq_ty_over)]
+#[cycle(eq_nodes)]
 fn eq_binary(t: &mut [u32], a: Rule, b: Rule, i: usize, j: usize, l: Kind, r: Kind) -> bool
     requires ready { Ready t.old a.words.now a.at.now b.words.now b.at.now i j l r }
-    requires code_value { l.code ≡ 14 }
+    requires binary { l.code ≡ 14 }
     ensures { KindsWalked a.entry.words.now l b.entry.words.now r t.old t.new result }
 {
     if !eq_words(l, r) {
@@ -89,10 +89,10 @@ fn eq_binary(t: &mut [u32], a: Rule, b: Rule, i: usize, j: usize, l: Kind, r: Ki
 }
 
 // The second reading of a binary expression, where the first fails.
-#[cycle(both_eq_binary_eq_block_eq_const_arg_eq_expr_eq_node_eq_part_eq_pat_eq_qpath_eq_reversed_eq_stmt_eq_ty_over)]
+#[cycle(eq_nodes)]
 fn eq_reversed(t: &mut [u32], a: Rule, b: Rule, i: usize, j: usize, l: Kind, r: Kind) -> bool
     requires ready { Ready t.old a.words.now a.at.now b.words.now b.at.now i j l r }
-    requires code_value { (l.code ≡ 14) × (FirstFails a.words.now l b.words.now r t.old) }
+    requires binary { (l.code ≡ 14) × (FirstFails a.words.now l b.words.now r t.old) }
     ensures { KindsWalked a.entry.words.now l b.entry.words.now r t.old t.new result }
 {
     if !is_reversed(l, r) {
@@ -112,10 +112,10 @@ fn eq_reversed(t: &mut [u32], a: Rule, b: Rule, i: usize, j: usize, l: Kind, r: 
 }
 
 // Patterns. A binding makes its two locals partners, after what is below it.
-#[cycle(both_eq_binary_eq_block_eq_const_arg_eq_expr_eq_node_eq_part_eq_pat_eq_qpath_eq_reversed_eq_stmt_eq_ty_over)]
+#[cycle(eq_nodes)]
 fn eq_pat(t: &mut [u32], a: Rule, b: Rule, i: usize, j: usize, l: Kind, r: Kind) -> bool
     requires ready { Ready t.old a.words.now a.at.now b.words.now b.at.now i j l r }
-    requires not { (Not 14 l) × (Not 70 l) }
+    requires excluded { (Not 14 l) × (Not 70 l) }
     ensures { KindsWalked a.entry.words.now l b.entry.words.now r t.old t.new result }
 {
     if !eq_words(l, r) {
@@ -135,10 +135,10 @@ fn eq_pat(t: &mut [u32], a: Rule, b: Rule, i: usize, j: usize, l: Kind, r: Kind)
 }
 
 // Paths. A path to a local goes by its partner.
-#[cycle(both_eq_binary_eq_block_eq_const_arg_eq_expr_eq_node_eq_part_eq_pat_eq_qpath_eq_reversed_eq_stmt_eq_ty_over)]
+#[cycle(eq_nodes)]
 fn eq_qpath(t: &mut [u32], a: Rule, b: Rule, i: usize, j: usize, l: Kind, r: Kind) -> bool
     requires ready { Ready t.old a.words.now a.at.now b.words.now b.at.now i j l r }
-    requires not { (Not 14 l) × (Not 41 l) }
+    requires excluded { (Not 14 l) × (Not 41 l) }
     ensures { KindsWalked a.entry.words.now l b.entry.words.now r t.old t.new result }
 {
     if !eq_words(l, r) {
@@ -154,57 +154,57 @@ fn eq_qpath(t: &mut [u32], a: Rule, b: Rule, i: usize, j: usize, l: Kind, r: Kin
 }
 
 // Types.
-#[cycle(both_eq_binary_eq_block_eq_const_arg_eq_expr_eq_node_eq_part_eq_pat_eq_qpath_eq_reversed_eq_stmt_eq_ty_over)]
+#[cycle(eq_nodes)]
 fn eq_ty(t: &mut [u32], a: Rule, b: Rule, i: usize, j: usize, l: Kind, r: Kind) -> bool
     requires ready { Ready t.old a.words.now a.at.now b.words.now b.at.now i j l r }
-    requires not { (Not 14 l) × ((Not 41 l) × (Not 70 l)) }
+    requires excluded { (Not 14 l) × ((Not 41 l) × (Not 70 l)) }
     ensures { KindsWalked a.entry.words.now l b.entry.words.now r t.old t.new result }
 {
     eq_words(l, r) && over(t, a, b, i, j, l, r)
 }
 
 // Constants.
-#[cycle(both_eq_binary_eq_block_eq_const_arg_eq_expr_eq_node_eq_part_eq_pat_eq_qpath_eq_reversed_eq_stmt_eq_ty_over)]
+#[cycle(eq_nodes)]
 fn eq_const_arg(t: &mut [u32], a: Rule, b: Rule, i: usize, j: usize, l: Kind, r: Kind) -> bool
     requires ready { Ready t.old a.words.now a.at.now b.words.now b.at.now i j l r }
-    requires not { (Not 14 l) × ((Not 41 l) × (Not 70 l)) }
+    requires excluded { (Not 14 l) × ((Not 41 l) × (Not 70 l)) }
     ensures { KindsWalked a.entry.words.now l b.entry.words.now r t.old t.new result }
 {
     eq_words(l, r) && over(t, a, b, i, j, l, r)
 }
 
 // Blocks: the statements, and then the tail.
-#[cycle(both_eq_binary_eq_block_eq_const_arg_eq_expr_eq_node_eq_part_eq_pat_eq_qpath_eq_reversed_eq_stmt_eq_ty_over)]
+#[cycle(eq_nodes)]
 fn eq_block(t: &mut [u32], a: Rule, b: Rule, i: usize, j: usize, l: Kind, r: Kind) -> bool
     requires ready { Ready t.old a.words.now a.at.now b.words.now b.at.now i j l r }
-    requires not { (Not 14 l) × ((Not 41 l) × (Not 70 l)) }
+    requires excluded { (Not 14 l) × ((Not 41 l) × (Not 70 l)) }
     ensures { KindsWalked a.entry.words.now l b.entry.words.now r t.old t.new result }
 {
     eq_words(l, r) && over(t, a, b, i, j, l, r)
 }
 
 // Statements.
-#[cycle(both_eq_binary_eq_block_eq_const_arg_eq_expr_eq_node_eq_part_eq_pat_eq_qpath_eq_reversed_eq_stmt_eq_ty_over)]
+#[cycle(eq_nodes)]
 fn eq_stmt(t: &mut [u32], a: Rule, b: Rule, i: usize, j: usize, l: Kind, r: Kind) -> bool
     requires ready { Ready t.old a.words.now a.at.now b.words.now b.at.now i j l r }
-    requires not { (Not 14 l) × ((Not 41 l) × (Not 70 l)) }
+    requires excluded { (Not 14 l) × ((Not 41 l) × (Not 70 l)) }
     ensures { KindsWalked a.entry.words.now l b.entry.words.now r t.old t.new result }
 {
     eq_words(l, r) && over(t, a, b, i, j, l, r)
 }
 
 // Segments, fields, arms, literals, and what is absent.
-#[cycle(both_eq_binary_eq_block_eq_const_arg_eq_expr_eq_node_eq_part_eq_pat_eq_qpath_eq_reversed_eq_stmt_eq_ty_over)]
+#[cycle(eq_nodes)]
 fn eq_part(t: &mut [u32], a: Rule, b: Rule, i: usize, j: usize, l: Kind, r: Kind) -> bool
     requires ready { Ready t.old a.words.now a.at.now b.words.now b.at.now i j l r }
-    requires not { (Not 14 l) × ((Not 41 l) × (Not 70 l)) }
+    requires excluded { (Not 14 l) × ((Not 41 l) × (Not 70 l)) }
     ensures { KindsWalked a.entry.words.now l b.entry.words.now r t.old t.new result }
 {
     eq_words(l, r) && over(t, a, b, i, j, l, r)
 }
 
 // The children of two nodes, one by one.
-#[cycle(both_eq_binary_eq_block_eq_const_arg_eq_expr_eq_node_eq_part_eq_pat_eq_qpath_eq_reversed_eq_stmt_eq_ty_over)]
+#[cycle(eq_nodes)]
 fn over(t: &mut [u32], a: Rule, b: Rule, i: usize, j: usize, l: Kind, r: Kind) -> bool
     requires { Ready t.old a.words.now a.at.now b.words.now b.at.now i j l r }
     ensures { KidsWalked a.entry.words.now l b.entry.words.now r t.old t.new result }
@@ -223,10 +223,10 @@ fn over(t: &mut [u32], a: Rule, b: Rule, i: usize, j: usize, l: Kind, r: Kind) -
 }
 
 // Two nodes, and then two more.
-#[cycle(both_eq_binary_eq_block_eq_const_arg_eq_expr_eq_node_eq_part_eq_pat_eq_qpath_eq_reversed_eq_stmt_eq_ty_over)]
+#[cycle(eq_nodes)]
 fn both(t: &mut [u32], a: Rule, b: Rule, x0: usize, y0: usize, x1: usize, y1: usize) -> bool
-    requires asked { Asked t.old a.words.now a.at.now b.words.now b.at.now x0 y0 }
-    requires asked_2 { Asked t.old a.words.now a.at.now b.words.now b.at.now x1 y1 }
+    requires first { Asked t.old a.words.now a.at.now b.words.now b.at.now x0 y0 }
+    requires second { Asked t.old a.words.now a.at.now b.words.now b.at.now x1 y1 }
     ensures { BothWalked a.entry.words.now x0 x1 b.entry.words.now y0 y1 t.old t.new result }
 {
     eq_node(t, a, b, x0, y0) && eq_node(t, a, b, x1, y1)

@@ -1,3 +1,5 @@
+#![tactic(auto)]
+
 ghost use Rattle.sameness.specs.Claims.{Reflexive, Symmetric, Transitive, Decided, TableRenames};
 ghost use Rattle.sameness.specs.TrialRules.{TrialRules};
 

@@ -1,5 +1,5 @@
 -- The heading, part by part. Assumes nothing.
-use Rattle.std.proofs.Common.{◌≡◌, ℕ, true, ◌⊎◌, List, Ok, Err, Result, sym, refl, ap, ◌∙◌, subst, inl, inr, ⊎_elim}
+use Rattle.std.proofs.Common.{◌≡◌, ℕ, true, List, Ok, Err, Result, refl, inl, inr, ⊎_elim}
 use Rattle.hashing.specs.Named.{spelling}
 use Rattle.hashing.specs.declared.named.HasherName.{HasherName}
 use Rattle.hashing.specs.declared.named.HasherName.TheVariants.{Rotating}

@@ -1,5 +1,5 @@
 -- The next piece of a line, and the number that it writes. Assumes nothing.
-use Rattle.std.proofs.Common.{◌≡◌, ℕ, ◌^◌, ◌<◌, ◌≤◌, Bool, true, false, ◌⊎◌, List, [], ◌∷◌, ◌++◌, length, get_or, Ok, Err, sym, refl, ap, ◌∙◌, subst, inl, inr, ⊎_elim, arith}
+use Rattle.std.proofs.Common.{◌≡◌, ℕ, ◌^◌, ◌<◌, ◌≤◌, true, false, ◌⊎◌, List, [], ◌∷◌, length, Err, sym, ap, subst, inl, inr, arith}
 use Rattle.tables.specs.declared.word.WordFault.{WordFault}
 use Rattle.tables.specs.declared.word.WordFault.TheVariants.{NotANumber, TooLarge}
 use Rattle.tables.specs.Numerals.{Writes, NoNumber, WideNumber, ReadAs}

@@ -1,5 +1,5 @@
 -- The lines of a script, one more of them. Assumes nothing.
-use Rattle.std.proofs.Common.{◌≡◌, ℕ, ◌+◌, ◌<◌, ◌≤◌, Bool, true, false, ◌⊎◌, List, [], ◌∷◌, ◌++◌, map, length, get_or, take, IsErrAnd, Some, None, Ok, Err, MatchBool, Option, Result, sym, refl, ap, ◌∙◌, subst, inl, inr, ⊎_elim, append_assoc, append-nil, arith, length-append}
+use Rattle.std.proofs.Common.{◌≡◌, ℕ, ◌+◌, ◌<◌, ◌≤◌, true, false, ◌⊎◌, List, [], ◌∷◌, ◌++◌, length, get_or, take, IsErrAnd, Some, None, Ok, Err, Option, Result, sym, refl, ap, ◌∙◌, subst, inl, inr, ⊎_elim, append_assoc, append-nil, arith, length-append}
 use Rattle.std.proofs.lemmas.List.{length_push, take_more}
 use Rattle.tables.specs.Lines.{content, skipped}
 use Rattle.tables.specs.Rules.{lines}
@@ -9,10 +9,10 @@ use Rattle.tables.proofs.Sole.{at_true, at-false}
 use Rattle.scripts.specs.Calls.{Told, told, told_all, CallAs}
 use Rattle.scripts.specs.Headings.{HeadingAs}
 use Rattle.scripts.specs.Readings.{line_of, Sole, NoneIs}
-use Rattle.scripts.specs.Scripts.{limit_of, Whole, CallsIn, ScriptIn, FaultAt, FaultOf, LinesAs}
+use Rattle.scripts.specs.Scripts.{limit_of, Whole, CallsIn, ScriptIn, FaultOf, LinesAs}
 use Rattle.scripts.specs.declared.call.Call.{Call}
 use Rattle.scripts.specs.declared.fault.ScriptFault.{ScriptFault}
-use Rattle.scripts.specs.declared.fault.ScriptFault.TheVariants.{NoHeading, Memory}
+use Rattle.scripts.specs.declared.fault.ScriptFault.TheVariants.{Memory}
 use Rattle.scripts.specs.declared.heading.Heading.{Heading}
 use Rattle.scripts.specs.declared.heading.Kind.{Kind}
 

@@ -1,4 +1,7 @@
 // Reads the text of a script: the heading of a catalogue, and then its calls, one to a line.
+
+#![tactic(auto)]
+
 pub mod call;
 pub mod fault;
 pub mod heading;

@@ -1,5 +1,6 @@
 pub mod Numbers
 pub mod Cuts
+pub mod Ordered
 pub mod Runs
 pub mod Endings
 pub mod Faults

@@ -1,19 +1,20 @@
 -- The rules of a table, one line more. Assumes nothing.
-use Rattle.std.proofs.Common.{◌≡◌, ℕ, suc, ◌+◌, ◌<◌, ◌≤◌, Bool, true, false, ◌⊎◌, List, [], ◌∷◌, ◌++◌, length, get_or, Some, None, string_bytes, MatchBool, Option, String, sym, refl, ap, ◌∙◌, subst, inl, inr, ⊎_elim, append_assoc, append-nil, arith, length-append}
-use Rattle.std.specs.BTreeMap.{keys, values, get_by_text, IsOrdered, UpdatesText}
-use Rattle.std.specs.Map.{lookup-text}
-use Rattle.std.specs.Str.{bytes_eq as same_text}
-use Rattle.std.specs.Cmp.Lexicographic.{bytes_decides}
+use Rattle.std.proofs.Common.{◌≡◌, ℕ, suc, ◌+◌, ◌<◌, ◌≤◌, Bool, true, false, true≢false, cond, ◌⊎◌, List, [], ◌∷◌, ◌++◌, length, get_or, Some, None, string_bytes, MatchBool, Option, String, sym, refl, ap, ◌∙◌, subst, inl, inr, ⊎_elim, append_assoc, append-nil, arith, length-append}
+use Rattle.std.specs.BTreeMap.{get_by_text, is_at, IsEmpty, IsOrdered}
+use Rattle.std.specs.Cmp.Lexicographic.{slice_cmp}
+use Rattle.std.specs.Map.{lookup, update}
+use Rattle.std.specs.Ordering.{nat_cmp}
+use Rattle.std.specs.Str.{bytes_eq}
+use Rattle.std.proofs.lemmas.Slice.Eq.{bytes_eq-Decides}
 use Rattle.std.specs.BTreeMap.{BTreeMap}
-use Rattle.std.proofs.StringKeys.BTreeMap as by-text
-use Rattle.std.proofs.SortedKeys.{sorted_none}
-use Rattle.std.proofs.lemmas.List.{get_or_append_left, get_or_push, get_or_default, length_push}
-use Rattle.std.proofs.lemmas.Bool.{cases_lt, cases_Bool, cond-true, cond-false}
+use Rattle.std.proofs.lemmas.List.{get_or_append_left, get_or_push, length_push}
+use Rattle.std.proofs.lemmas.Bool.{cases_lt, cases_Bool, cond-true, cond-false, false_from_ne_true}
 use Rattle.tables.specs.declared.fault.TableFault.{TableFault}
 use Rattle.tables.specs.declared.fault.TableFault.TheVariants.{NoColon, NoName, NameTwice, NotANumber, TooLarge, NotUtf8, Memory}
 use Rattle.tables.specs.declared.line.Entry.{Entry}
-use Rattle.tables.specs.Lines.{content, skipped, RuleAt, Shown, LineFault}
-use Rattle.tables.specs.Rules.{lines, name_of, Holds, Apart, Stands, FaultAfter, FaultIn, NameFault}
+use Rattle.tables.specs.Lines.{content, skipped, RuleAt, LineFault}
+use Rattle.tables.specs.Rules.{lines, name_of, Holds, Apart, Stands, FaultAfter, FaultIn, NameFault, SetsText}
+use Rattle.tables.proofs.Ordered.{empty-ordered}
 use Rattle.tables.proofs.Rows.{lines-length}
 use Rattle.std.specs.String.{string_cmp}
 
@@ -78,18 +79,32 @@ stands-last es x v k name line = (
   λ d. let same = get_or_push es x d (length es) refl in (ap name_of same ∙ sym name, ap (λ e. e.line) same ∙ line),
 )
 
+bytes_eq-swap : (v w : List ℕ) → bytes_eq v w ≡ bytes_eq w v
+bytes_eq-swap v w =
+    ⊎_elim
+    (λ yes. yes ∙ sym ((bytes_eq-Decides w v).1 (sym ((bytes_eq-Decides v w).0 yes))))
+    (λ no. no ∙ sym (false_from_ne_true _ (λ e. true≢false (sym ((bytes_eq-Decides v w).1 (sym ((bytes_eq-Decides w v).0 e))) ∙ no))))
+    (cases_Bool (bytes_eq v w))
+
+differs : (v w : List ℕ) → (v ≡ w → ⊥) → bytes_eq v w ≡ false
+differs v w other = false_from_ne_true _ (λ e. other ((bytes_eq-Decides v w).0 e))
+
 module _ {Y : Type 0} where
+  -- what is at each name after a change at the name bs
+  pub sets-text : (bs : List ℕ) (m n : BTreeMap (String Y) ℕ) (w : Option ℕ) → ((v : List ℕ) → get_by_text n v ≡ update bytes_eq (get_by_text m) bs w v) → (v : List ℕ) → get_by_text n v ≡ cond (bytes_eq v bs) w (get_by_text m v)
+  sets-text bs m n w h v = h v ∙ ap (λ b. cond b w (get_by_text m v)) (bytes_eq-swap bs v)
+
   -- m has the line of each of the rules es at its name, and no other name
   pub record Noted (es : List Entry) (m : BTreeMap (String Y) ℕ) : Type 0 where
     pub ordered : IsOrdered string_cmp m
     pub has : (i : ℕ) (d : Entry) → i < length es → get_by_text m (name_of (get_or es i d)) ≡ Some (get_or es i d).line
     pub from : (v : List ℕ) (k : ℕ) → get_by_text m v ≡ Some k → Stands es v k
 
-  noted-none : (m : BTreeMap (String Y) ℕ) → keys m ≡ [] → values m ≡ [] → Noted [] m
-  noted-none m ks vs = record {
-    ordered = (ap length vs ∙ sym (ap length ks), sorted_none _ ks string_cmp);
+  noted-none : (m : BTreeMap (String Y) ℕ) → IsEmpty m → Noted [] m
+  noted-none m none = record {
+    ordered = empty-ordered string_cmp m none;
     has = λ i d l. absurd (omega arith);
-    from = λ v k e. absurd (nothing (sym (ap (λ l. lookup-text l (values m) v) ks) ∙ e));
+    from = λ v k e. absurd (nothing (sym (ap (λ es. lookup (is_at (λ k. slice_cmp nat_cmp v (string_bytes k))) es) none) ∙ e));
   }
     where
       nothing : {k : ℕ} → ◌≡◌ {A = Option ℕ} None (Some k) → ⊥
@@ -101,7 +116,7 @@ module _ {Y : Type 0} where
       let z : ◌≡◌ {A = ℕ} 0 1 = cc in
       omega arith
 
-  noted_more : (es : List Entry) (x : Entry) (m n : BTreeMap (String Y) ℕ) → Noted es m → get_by_text m (name_of x) ≡ None → UpdatesText m n (name_of x) (Some x.line) → Noted (es ++ (x ∷ [])) n
+  noted_more : (es : List Entry) (x : Entry) (m n : BTreeMap (String Y) ℕ) → Noted es m → get_by_text m (name_of x) ≡ None → SetsText m n (name_of x) (Some x.line) → Noted (es ++ (x ∷ [])) n
   noted_more es x m n h none sets = record {
     ordered = sets.0;
     has = λ i d l.
@@ -109,18 +124,18 @@ module _ {Y : Type 0} where
         (λ inside.
         let other = new-name es m (name_of x) h none i d inside in
         subst (λ y. get_by_text n (name_of y) ≡ Some y.line) (sym (get_or_append_left es (x ∷ []) d i inside))
-        (by-text.elsewhere m n (name_of x) (name_of (get_or es i d)) (Some x.line) sets other ∙ h.has i d inside))
+        (sets.1 (name_of (get_or es i d)) ∙ cond-false _ (Some x.line) (get_by_text m (name_of (get_or es i d))) (differs (name_of (get_or es i d)) (name_of x) other) ∙ h.has i d inside))
         (λ at.
         let end : length es ≡ i = omega (arith, length_push es x) in
-        subst (λ y. get_by_text n (name_of y) ≡ Some y.line) (sym (get_or_push es x d i end)) (by-text.Reads-back m n (name_of x) (Some x.line) sets))
+        subst (λ y. get_by_text n (name_of y) ≡ Some y.line) (sym (get_or_push es x d i end)) (sets.1 (name_of x) ∙ cond-true _ (Some x.line) (get_by_text m (name_of x)) ((bytes_eq-Decides (name_of x) (name_of x)).1 refl)))
         (cases_lt i (length es));
     from = λ v k e.
         ⊎_elim
         (λ yes.
-        let got = sym (sets.1 v ∙ cond-true (same_text v (name_of x)) (Some x.line) (get_by_text m v) yes) ∙ e in
-        stands-last es x v k ((bytes_decides v (name_of x)).0 yes) (cc))
-        (λ other. stands-more es x v k (h.from v k (sym (sets.1 v ∙ cond-false (same_text v (name_of x)) (Some x.line) (get_by_text m v) other) ∙ e)))
-        (cases_Bool (same_text v (name_of x)));
+        let got = sym (sets.1 v ∙ cond-true (bytes_eq v (name_of x)) (Some x.line) (get_by_text m v) yes) ∙ e in
+        stands-last es x v k ((bytes_eq-Decides v (name_of x)).0 yes) (cc))
+        (λ other. stands-more es x v k (h.from v k (sym (sets.1 v ∙ cond-false (bytes_eq v (name_of x)) (Some x.line) (get_by_text m v) other) ∙ e)))
+        (cases_Bool (bytes_eq v (name_of x)));
   }
 
   -- the invariant: the lines before `left` hold the rules es
@@ -132,14 +147,14 @@ module _ {Y : Type 0} where
     pub apart : Apart es
     pub noted : Noted es m
 
-  pub none_yet : (text : List ℕ) (m : BTreeMap (String Y) ℕ) → keys m ≡ [] → values m ≡ [] → Sofar text (lines text) 0 [] m
-  none_yet text m ks vs = record {
+  pub none_yet : (text : List ℕ) (m : BTreeMap (String Y) ℕ) → IsEmpty m → Sofar text (lines text) 0 [] m
+  none_yet text m none = record {
     done = [];
     whole = refl;
     count = refl;
     held = refl;
     apart = λ i j d before within same. absurd (omega arith);
-    noted = noted-none m ks vs;
+    noted = noted-none m none;
   }
 
   pub all_read : (text : List ℕ) (line : ℕ) (es : List Entry) (m : BTreeMap (String Y) ℕ) → Sofar text [] line es m → Holds 1 (lines text) es × Apart es
@@ -168,7 +183,7 @@ module _ {Y : Type 0} where
       noted = old.noted;
     }
 
-    pub rule-line : (x : Entry) (n : BTreeMap (String Y) ℕ) → skipped (content l) ≡ false → RuleAt (line + 1) (content l) x → get_by_text m (name_of x) ≡ None → UpdatesText m n (name_of x) (Some x.line) → Sofar text left (line + 1) (es ++ (x ∷ [])) n
+    pub rule-line : (x : Entry) (n : BTreeMap (String Y) ℕ) → skipped (content l) ≡ false → RuleAt (line + 1) (content l) x → get_by_text m (name_of x) ≡ None → SetsText m n (name_of x) (Some x.line) → Sofar text left (line + 1) (es ++ (x ∷ [])) n
     rule-line x n plain rule none sets = record {
       done = old.done ++ (l ∷ []);
       whole = further;

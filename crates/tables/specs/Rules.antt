@@ -1,8 +1,9 @@
 -- The rules that a whole table holds. Assumes nothing.
-use Rattle.std.specs.Prelude.{◌≡◌, ℕ, ◌+◌, ◌<◌, Bool, true, false, cond, ◌⊎◌, List, [], ◌∷◌, ◌++◌, length, get_or, take, IfErr, Some, None, Ok, Err, vec_items, string_bytes, IsUtf8, MatchBool, Result, Vec, String, ◌==◌, ◌≢◌, slice_index_or}
+use Rattle.std.specs.Prelude.{◌≡◌, ℕ, ◌+◌, ◌<◌, false, cond, ◌⊎◌, List, [], ◌∷◌, ◌++◌, length, get_or, take, IfErr, Option, Some, None, Ok, Err, vec_items, string_bytes, IsUtf8, MatchBool, Result, Vec, String, ◌==◌, ◌≢◌, slice_index_or}
 use Rattle.std.specs.Borrow.{Bor}
-use Rattle.std.specs.BTreeMap.{get_by_text, UpdatesText}
-use Rattle.std.specs.Str.{IsValidUpTo}
+use Rattle.std.specs.BTreeMap.{get_by_text, IsOrdered}
+use Rattle.std.specs.Str.{IsValidUpTo, bytes_eq}
+use Rattle.std.specs.String.{string_cmp}
 use Rattle.std.specs.BTreeMap.{BTreeMap}
 use Rattle.tables.specs.declared.fault.TableFault.{TableFault}
 use Rattle.tables.specs.declared.fault.TableFault.TheVariants.{NoColon, NoName, NameTwice, NotANumber, TooLarge, NotUtf8, Memory}
@@ -86,7 +87,11 @@ module _ {Y : Type 0} where
   NameFault m e (NotUtf8 k) = ⊥
   NameFault m e Memory = Unit {0}
 
+  -- n has w at the name bs, and at each other name what m has; its names are in order
+  abbrev pub SetsText : BTreeMap (String Y) ℕ → BTreeMap (String Y) ℕ → List ℕ → Option ℕ → Type 0
+  SetsText m n bs w = IsOrdered string_cmp n × ((v : List ℕ) → get_by_text n v ≡ cond (bytes_eq v bs) w (get_by_text m v))
+
   -- what it answers to note the line of e at its name in m, which is n then
   abbrev pub NotedAs : {U : Type 0} → BTreeMap (String Y) ℕ → BTreeMap (String Y) ℕ → Entry → Result U TableFault → Type 0
-  NotedAs m n e (Ok u) = (get_by_text m (name_of e) ≡ None) × UpdatesText m n (name_of e) (Some e.line)
+  NotedAs m n e (Ok u) = (get_by_text m (name_of e) ≡ None) × SetsText m n (name_of e) (Some e.line)
   NotedAs m n e (Err f) = NameFault m e f

@@ -1,4 +1,7 @@
 // Reads the text of rule tables: a rule to a line, its name, a colon and its run of words.
+
+#![tactic(auto)]
+
 pub mod blanks;
 pub mod fault;
 pub mod line;

@@ -1,5 +1,7 @@
 // A table, line by line.
 ghost use Rattle.std.specs.Prelude.{◌≡◌, ◌≤◌, length, take, IsUtf8};
+ghost use Rattle.std.specs.BTreeMap.{IsOrdered};
+ghost use Rattle.std.specs.String.{string_cmp};
 ghost use Rattle.tables.specs.Rules.{lines, BytesAs, KeepsTables, NotedAs, TableAs, TextAs};
 
 use crate::fault::{TableFault, shown};
@@ -67,6 +69,7 @@ fn note_name(
     seen: &mut BTreeMap<String, usize>,
     entry: &Entry,
 ) -> Result<(), TableFault>
+    requires { IsOrdered string_cmp seen.old }
     ensures { NotedAs seen.old seen.new entry.now result }
 {
     let name = entry.name.as_str();

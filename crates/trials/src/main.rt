@@ -1,4 +1,7 @@
 // The intake on a list of cases: for each, the number by which `intake` and `intake_entry` refuse it, or 0.
+
+#![tactic(auto)]
+
 use rule::fault::Fault;
 use rule::intake::{intake, intake_entry};
 use rule::nodes::Nodes;

@@ -1,7 +1,6 @@
 -- How many rules have each outcome. Assumes nothing.
 use Rattle.std.specs.Prelude.{◌≡◌, ℕ, ◌+◌, cond, List, [], ◌∷◌, length}
 use Rattle.verdicts.specs.declared.census.Census.{Census}
-use Rattle.verdicts.specs.declared.outcome.Kind as kind
 use Rattle.verdicts.specs.declared.outcome.Kind.{Kind}
 use Rattle.verdicts.specs.declared.outcome.Outcome.{Outcome}
 use Rattle.verdicts.specs.declared.outcome.Outcome.TheVariants.{Keep, Convert, Gone, Added, Refused}

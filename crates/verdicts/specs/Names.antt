@@ -1,8 +1,8 @@
 -- The rules of a table by their names. Assumes nothing.
 use Rattle.std.specs.Prelude.{◌≡◌, ℕ, ◌<◌, List, length, Some, None, vec_items, Option, String, ◌≢◌, slice_index_or}
-use Rattle.std.specs.Borrow.{MutBor}
+use Rattle.std.specs.Borrow.{Bor}
 use Rattle.std.specs.BTreeMap.{get_by_text, IsOrdered}
-use Rattle.std.specs.String.{string_cmp_total}
+use Rattle.std.specs.String.{string_cmp}
 use Rattle.std.specs.BTreeMap.{BTreeMap}
 use Rattle.tables.specs.declared.line.Entry.{Entry}
 use Rattle.tables.specs.Rules.{name_of}
@@ -14,7 +14,7 @@ PlaceBelow es n name (Some i) = (i < n) × ((d : Entry) → name_of (slice_index
 
 -- the map has at each name the place of a rule with that name among the first n
 abbrev pub IndexesBelow : {Y : Type 0} → List Entry → ℕ → BTreeMap (String Y) ℕ → Type 0
-IndexesBelow es n m = IsOrdered string_cmp_total m × ((name : List ℕ) → PlaceBelow es n name (get_by_text m name))
+IndexesBelow es n m = IsOrdered string_cmp m × ((name : List ℕ) → PlaceBelow es n name (get_by_text m name))
 
 -- and among all of them
 abbrev pub Indexes : {Y : Type 0} → List Entry → BTreeMap (String Y) ℕ → Type 0
@@ -32,6 +32,6 @@ abbrev pub Lacks : List Entry → List ℕ → Type 0
 Lacks es name = (i : ℕ) (d : Entry) → i < length es → name_of (slice_index_or es i d) ≢ name
 
 -- a rule with this name, or none where no rule has it
-abbrev pub FoundAs : List Entry → List ℕ → Option (MutBor Entry) → Type 0
+abbrev pub FoundAs : List Entry → List ℕ → Option (Bor Entry) → Type 0
 FoundAs es name None = (i : ℕ) (d : Entry) → i < length es → name_of (slice_index_or es i d) ≢ name
 FoundAs es name (Some e) = (i : ℕ) × (i < length es) × ((d : Entry) → e.now ≡ slice_index_or es i d) × (name_of e.now ≡ name)

@@ -7,7 +7,6 @@ use Rattle.sameness.specs.Sameness.{Same}
 use Rattle.sameness.specs.Comparing.{Sound, Unsound}
 use Rattle.sameness.specs.declared.compare.CompareFault.{CompareFault}
 use Rattle.sameness.specs.declared.compare.CompareFault.TheVariants.{First, Second, PairTable}
-use Rattle.verdicts.specs.declared.outcome.Kind as kind
 use Rattle.verdicts.specs.declared.outcome.Kind.{Kind}
 use Rattle.verdicts.specs.declared.outcome.Outcome.{Outcome}
 use Rattle.verdicts.specs.declared.outcome.Outcome.TheVariants.{Keep, Convert, Gone, Added, Refused}

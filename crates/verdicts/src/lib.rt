@@ -1,4 +1,7 @@
 // What is said of rules: of one, of two, and of a table that takes the place of another.
+
+#![tactic(auto)]
+
 pub mod answer;
 pub mod census;
 pub mod comparison;

@@ -5,55 +5,55 @@ use Rattle.arguments.specs.Hashers.{HashedAs}
 use Rattle.arguments.proofs.Tails.{read_as}
 use Rattle.arguments.proofs.command.parse_args.Goals as goal
 
-pub returns-in-ok-one-table : goal.returns-in-ok-one-table
-returns-in-ok-one-table c = (search rules, read_as TableAs c.args.args.now c.in-ok-one-table.was c.one-table.ensures)
+pub returns-in_ok-one_table-in-check : goal.returns-in_ok-one_table-in-check
+returns-in_ok-one_table-in-check c = (search rules, read_as TableAs c.args.args.now c.in_ok-one_table-in-check.was c.one_table.ensures)
 
-pub returns-in-ok-table-and-names : goal.returns-in-ok-table-and-names
-returns-in-ok-table-and-names c = (search rules, read_as ComparedAs c.args.args.now c.in-ok-table-and-names.was c.table-and-names.ensures)
+pub returns-in_ok-table_and_names-in-compare : goal.returns-in_ok-table_and_names-in-compare
+returns-in_ok-table_and_names-in-compare c = (search rules, read_as ComparedAs c.args.args.now c.in_ok-table_and_names-in-compare.was c.table_and_names.ensures)
 
-pub returns-in-ok-two-tables : goal.returns-in-ok-two-tables
-returns-in-ok-two-tables c = (search rules, read_as ChangedAs c.args.args.now c.in-ok-two-tables.was c.two-tables.ensures)
+pub returns-in_ok-two_tables-in-change : goal.returns-in_ok-two_tables-in-change
+returns-in_ok-two_tables-in-change c = (search rules, read_as ChangedAs c.args.args.now c.in_ok-two_tables-in-change.was c.two_tables.ensures)
 
-pub returns-in-ok-table-and-hasher : goal.returns-in-ok-table-and-hasher
-returns-in-ok-table-and-hasher c = (search rules, read_as HashedAs c.args.args.now c.in-ok-table-and-hasher.was c.table-and-hasher.ensures)
+pub returns-in_ok-table_and_hasher-in-hash : goal.returns-in_ok-table_and_hasher-in-hash
+returns-in_ok-table_and_hasher-in-hash c = (search rules, read_as HashedAs c.args.args.now c.in_ok-table_and_hasher-in-hash.was c.table_and_hasher.ensures)
 
-pub returns-in-ok-table-and-hasher-2 : goal.returns-in-ok-table-and-hasher-2
-returns-in-ok-table-and-hasher-2 c = (search rules, read_as HashedAs c.args.args.now c.in-ok-table-and-hasher-2.was c.table-and-hasher-in-classes.ensures)
+pub returns-in_ok-table_and_hasher-in-classes : goal.returns-in_ok-table_and_hasher-in-classes
+returns-in_ok-table_and_hasher-in-classes c = (search rules, read_as HashedAs c.args.args.now c.in_ok-table_and_hasher-in-classes.was c.table_and_hasher-in-classes.ensures)
 
-pub returns-in-err-one-table : goal.returns-in-err-one-table
-returns-in-err-one-table c =
-    let p = err_from_is_err_and c.from-residual-in-err-one-table.result c.from-residual-in-err-one-table.ensures.1 in
-    rw (p.1, p.2) (inr (inl (search rules, read_as TableAs c.args.args.now c.in-err-one-table.was c.one-table.ensures)))
+pub returns-in_err-one_table-in-check : goal.returns-in_err-one_table-in-check
+returns-in_err-one_table-in-check c =
+    let p = err_from_is_err_and c.from_residual-in_err-one_table-in-check.result c.from_residual-in_err-one_table-in-check.ensures.1 in
+    rw (p.1, p.2) (inr (inl (search rules, read_as TableAs c.args.args.now c.in_err-one_table-in-check.was c.one_table.ensures)))
 
-pub returns-in-err-table-and-names : goal.returns-in-err-table-and-names
-returns-in-err-table-and-names c =
-    let p = err_from_is_err_and c.from-residual-in-err-table-and-names.result c.from-residual-in-err-table-and-names.ensures.1 in
-    rw (p.1, p.2) (inr (inr (inl (search rules, read_as ComparedAs c.args.args.now c.in-err-table-and-names.was c.table-and-names.ensures))))
+pub returns-in_err-table_and_names-in-compare : goal.returns-in_err-table_and_names-in-compare
+returns-in_err-table_and_names-in-compare c =
+    let p = err_from_is_err_and c.from_residual-in_err-table_and_names-in-compare.result c.from_residual-in_err-table_and_names-in-compare.ensures.1 in
+    rw (p.1, p.2) (inr (inr (inl (search rules, read_as ComparedAs c.args.args.now c.in_err-table_and_names-in-compare.was c.table_and_names.ensures))))
 
-pub returns-in-err-two-tables : goal.returns-in-err-two-tables
-returns-in-err-two-tables c =
-    let p = err_from_is_err_and c.from-residual-in-err-two-tables.result c.from-residual-in-err-two-tables.ensures.1 in
-    rw (p.1, p.2) (inr (inr (inr (inl (search rules, read_as ChangedAs c.args.args.now c.in-err-two-tables.was c.two-tables.ensures)))))
+pub returns-in_err-two_tables-in-change : goal.returns-in_err-two_tables-in-change
+returns-in_err-two_tables-in-change c =
+    let p = err_from_is_err_and c.from_residual-in_err-two_tables-in-change.result c.from_residual-in_err-two_tables-in-change.ensures.1 in
+    rw (p.1, p.2) (inr (inr (inr (inl (search rules, read_as ChangedAs c.args.args.now c.in_err-two_tables-in-change.was c.two_tables.ensures)))))
 
-pub returns-in-err-table-and-hasher : goal.returns-in-err-table-and-hasher
-returns-in-err-table-and-hasher c =
-    let p = err_from_is_err_and c.from-residual-in-err-table-and-hasher.result c.from-residual-in-err-table-and-hasher.ensures.1 in
-    rw (p.1, p.2) (inr (inr (inr (inr (inl (search rules, read_as HashedAs c.args.args.now c.in-err-table-and-hasher.was c.table-and-hasher.ensures))))))
+pub returns-in_err-table_and_hasher-in-hash : goal.returns-in_err-table_and_hasher-in-hash
+returns-in_err-table_and_hasher-in-hash c =
+    let p = err_from_is_err_and c.from_residual-in_err-table_and_hasher-in-hash.result c.from_residual-in_err-table_and_hasher-in-hash.ensures.1 in
+    rw (p.1, p.2) (inr (inr (inr (inr (inl (search rules, read_as HashedAs c.args.args.now c.in_err-table_and_hasher-in-hash.was c.table_and_hasher.ensures))))))
 
-pub returns-in-err-table-and-hasher-2 : goal.returns-in-err-table-and-hasher-2
-returns-in-err-table-and-hasher-2 c =
-    let p = err_from_is_err_and c.from-residual-in-err-table-and-hasher-2.result c.from-residual-in-err-table-and-hasher-2.ensures.1 in
-    rw (p.1, p.2) (inr (inr (inr (inr (inr (inl (search rules, read_as HashedAs c.args.args.now c.in-err-table-and-hasher-2.was c.table-and-hasher-in-classes.ensures)))))))
+pub returns-in_err-table_and_hasher-in-classes : goal.returns-in_err-table_and_hasher-in-classes
+returns-in_err-table_and_hasher-in-classes c =
+    let p = err_from_is_err_and c.from_residual-in_err-table_and_hasher-in-classes.result c.from_residual-in_err-table_and_hasher-in-classes.ensures.1 in
+    rw (p.1, p.2) (inr (inr (inr (inr (inr (inl (search rules, read_as HashedAs c.args.args.now c.in_err-table_and_hasher-in-classes.was c.table_and_hasher-in-classes.ensures)))))))
 
-pub returns-in-ok-one-script : goal.returns-in-ok-one-script
-returns-in-ok-one-script c = (search rules, read_as ScriptAs c.args.args.now c.in-ok-one-script.was c.one-script.ensures)
+pub returns-in_ok-one_script-in-replay : goal.returns-in_ok-one_script-in-replay
+returns-in_ok-one_script-in-replay c = (search rules, read_as ScriptAs c.args.args.now c.in_ok-one_script-in-replay.was c.one_script.ensures)
 
-pub returns-in-err-one-script : goal.returns-in-err-one-script
-returns-in-err-one-script c =
-    let p = err_from_is_err_and c.from-residual-in-err-one-script.result c.from-residual-in-err-one-script.ensures.1 in
-    rw (p.1, p.2) (inr (inr (inr (inr (inr (inr (inl (search rules, read_as ScriptAs c.args.args.now c.in-err-one-script.was c.one-script.ensures))))))))
+pub returns-in_err-one_script-in-replay : goal.returns-in_err-one_script-in-replay
+returns-in_err-one_script-in-replay c =
+    let p = err_from_is_err_and c.from_residual-in_err-one_script-in-replay.result c.from_residual-in_err-one_script-in-replay.ensures.1 in
+    rw (p.1, p.2) (inr (inr (inr (inr (inr (inr (inl (search rules, read_as ScriptAs c.args.args.now c.in_err-one_script-in-replay.was c.one_script.ensures))))))))
 
-pub returns-in-err-alone : goal.returns-in-err-alone
-returns-in-err-alone c =
-    let p = err_from_is_err_and c.from-residual.result c.from-residual.ensures.1 in
-    rw (p.1, p.2) (inl (elim c.in-help.is [ inl q ↦ inl (search rules) | inr q ↦ inr (search rules) ], read_as AloneAs c.args.args.now c.in-err-alone.was c.alone.ensures))
+pub returns-in_err-alone-in-help : goal.returns-in_err-alone-in-help
+returns-in_err-alone-in-help c =
+    let p = err_from_is_err_and c.from_residual.result c.from_residual.ensures.1 in
+    rw (p.1, p.2) (inl (elim c.in-help.is [ inl q ↦ inl (search rules) | inr q ↦ inr (search rules) ], read_as AloneAs c.args.args.now c.in_err-alone-in-help.was c.alone.ensures))

@@ -1,4 +1,4 @@
-use Rattle.std.proofs.Common.{◌≡◌, ℕ, [], length, take, vec_items}
+use Rattle.std.proofs.Common.{◌≡◌, [], length, take, vec_items}
 use Rattle.catalogue.specs.Promise.{Reached}
 use Rattle.catalogue.specs.States.{state}
 use Rattle.hashing.specs.Words.{of_words}

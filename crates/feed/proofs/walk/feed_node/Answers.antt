@@ -8,8 +8,8 @@ pub returns-in-ByHash : goal.returns-in-ByHash
 unfolding head_of
 returns-in-ByHash g c = let e : ByHash ≡ way_of c.args.kind = c.in-ByHash.ensures in rw (← e) (cc)
 
-pub returns-in-default : goal.returns-in-default
+pub returns-in_default : goal.returns-in_default
 unfolding head_of
-returns-in-default g c =
-    let e = no-hashes (way_of c.args.kind) c.args.smaller c.args.larger (λ h. c.in-default.not-ByHash (c.way-of.ensures ∙ h)) in
+returns-in_default g c =
+    let e = no-hashes (way_of c.args.kind) c.args.smaller c.args.larger (λ h. c.in_default.not-ByHash (c.way_of.ensures ∙ h)) in
     rw e (cc)

@@ -10,22 +10,22 @@ loop-depth-init g c =
     let none : List ℕ = replicate 2048 0 in
     let long : length none ≡ 2048 = length-replicate {A = ℕ} 2048 0 in (
       stacked-one c.args.top none none long long,
-      walk-one _ _ _ _ _ _ c.requires g.H.Hasher.fed c.fresh-hasher.result _ _ none none (omega arith) refl c.feed-at.ensures c.fresh-hasher.ensures,
+      walk-one _ _ _ _ _ _ c.requires g.H.Hasher.fed c.fresh-hasher.result _ _ none none (omega arith) refl c.feed_at.ensures c.fresh-hasher.ensures,
     )
 
-pub offset-bounds-nodes-depth : goal.offset-bounds-nodes-depth
-offset-bounds-nodes-depth g c = omega (arith, c.requires.few, c.requires.top_in, c.loop-depth.invariant.0.falls (c.loop-depth.depth - 1) (omega arith))
+pub offset_bounds-nodes-depth : goal.offset_bounds-nodes-depth
+offset_bounds-nodes-depth g c = omega (arith, c.requires.few, c.requires.top_in, c.loop-depth.invariant.0.falls (c.loop-depth.depth - 1) (omega arith))
 
 pub bounds-nodes-depth : goal.bounds-nodes-depth
 bounds-nodes-depth g c = omega (arith, c.requires.few, c.requires.top_in, c.loop-depth.invariant.0.falls (c.loop-depth.depth - 1) (omega arith))
 
-pub feed-at-requires-in-Some : goal.feed-at-requires-in-Some
-feed-at-requires-in-Some g c =
+pub feed_at-requires-in-Some : goal.feed_at-requires-in-Some
+feed_at-requires-in-Some g c =
     let b = child-deep _ _ _ _ _ _ c.requires _ _ _ _ c.loop-depth.invariant.0 c.loop-depth-test.true c.in-Some.ensures in
     (omega (arith, b, c.requires.top_in), (omega (arith, b, c.requires.top_in, c.requires.few, c.requires.smaller_room), omega (arith, b, c.requires.top_in, c.requires.few, c.requires.larger_room)))
 
-pub overflow-cast-nodes-in-Some : goal.overflow-cast-nodes-in-Some
-overflow-cast-nodes-in-Some g c =
+pub overflow_cast-nodes-in-Some : goal.overflow_cast-nodes-in-Some
+overflow_cast-nodes-in-Some g c =
     let b = child-deep _ _ _ _ _ _ c.requires _ _ _ _ c.loop-depth.invariant.0 c.loop-depth-test.true c.in-Some.ensures in
     omega (arith, b, c.requires.top_in, c.requires.few)
 
@@ -45,7 +45,7 @@ loop-depth-smaller-in-Some g c = shorter _ _ _ _ _ _ c.requires _ _ _ _ c.loop-d
 pub loop-depth-preserved-in-Some : goal.loop-depth-preserved-in-Some
 loop-depth-preserved-in-Some g c = (
   stack-more _ _ _ _ _ _ c.requires _ _ _ _ c.loop-depth.invariant.0 c.loop-depth-test.true c.in-Some.ensures,
-  walk_more _ _ _ _ _ _ c.requires _ _ _ _ c.loop-depth.invariant.0 c.loop-depth-test.true c.in-Some.ensures g.H.Hasher.fed c.loop-depth.hasher _ _ c.feed-at-in-Some.ensures c.loop-depth.invariant.1,
+  walk_more _ _ _ _ _ _ c.requires _ _ _ _ c.loop-depth.invariant.0 c.loop-depth-test.true c.in-Some.ensures g.H.Hasher.fed c.loop-depth.hasher _ _ c.feed_at-in-Some.ensures c.loop-depth.invariant.1,
 )
 
 pub loop-depth-smaller : goal.loop-depth-smaller

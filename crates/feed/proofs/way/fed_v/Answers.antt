@@ -16,6 +16,6 @@ pub returns-in-14 : goal.returns-in-14
 unfolding fed_v bare_v
 returns-in-14 c = grind (arith, nat_tests)
 
-pub returns-in-default : goal.returns-in-default
+pub returns-in_default : goal.returns-in_default
 unfolding fed_v bare_v
-returns-in-default c = grind (arith, nat_tests)
+returns-in_default c = grind (arith, nat_tests)

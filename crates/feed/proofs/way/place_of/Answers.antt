@@ -5,7 +5,7 @@ use Rattle.feed.proofs.Orders.{facts_at}
 use Rattle.feed.proofs.Lefts.{walked-kids}
 use Rattle.feed.proofs.way.place_of.Goals as goal
 
-pub overflow-sub-result : goal.overflow-sub-result
-overflow-sub-result c =
+pub overflow_sub-result : goal.overflow_sub-result
+overflow_sub-result c =
     let k = c.args.kind in
     omega (arith, (facts_at k Exchanged (sym c.in-Exchanged.ensures)).0, walked-kids (way_of k) k.kids c.args.q c.requires.1)

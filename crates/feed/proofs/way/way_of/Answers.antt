@@ -23,6 +23,6 @@ pub returns-in-15 : goal.returns-in-15
 unfolding way_of
 returns-in-15 c = grind (arith, nat_tests)
 
-pub returns-in-default : goal.returns-in-default
+pub returns-in_default : goal.returns-in_default
 unfolding way_of
-returns-in-default c = grind (arith, nat_tests)
+returns-in_default c = grind (arith, nat_tests)

@@ -1,4 +1,4 @@
-use Rattle.std.proofs.Common.{◌≡◌, ℕ, ◌<◌, false, get_or}
+use Rattle.std.proofs.Common.{◌≡◌, ℕ, ◌<◌, false}
 use Rattle.rule.specs.Run.{code_at}
 use Rattle.rule.specs.Intake.{barred, offset}
 use Rattle.rule.proofs.intake.check_comparable.Given as goal

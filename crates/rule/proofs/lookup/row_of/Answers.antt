@@ -1,4 +1,4 @@
-use Rattle.std.proofs.Common.{◌≡◌, ℕ, ◌+◌, ◌<◌, ◌≤◌, length, get_or, sym, ap, ◌∙◌, subst, arith}
+use Rattle.std.proofs.Common.{◌≡◌, ◌+◌, ◌<◌, length, get_or, sym, subst, arith}
 use Rattle.rule.specs.Format.{format}
 use Rattle.rule.specs.Lookup.{row_of}
 use Rattle.rule.proofs.Sought.{Standing, row-above, sought-skip, standing-at, try-here, try-next, try-none}
@@ -19,13 +19,13 @@ loop-k-init c =
 pub bounds-rows-k : goal.bounds-rows-k
 bounds-rows-k c = omega (arith, c.loop-k.invariant.0.room)
 
-pub returns-then-is-for : goal.returns-then-is-for
-returns-then-is-for c =
-    try-here _ _ _ _ _ _ c.rows-rows.ensures (omega (arith, c.loop-k.invariant.0.room)) (sym c.if-is-for.ensures) c.loop-k.invariant.1
+pub returns-then-is_for : goal.returns-then-is_for
+returns-then-is_for c =
+    try-here _ _ _ _ _ _ c.rows-rows.ensures (omega (arith, c.loop-k.invariant.0.room)) (sym c.if-is_for.ensures) c.loop-k.invariant.1
 
 pub loop-k-preserved : goal.loop-k-preserved
 loop-k-preserved c =
-    (c.loop-k.invariant.0, try-next c.rows-rows.result.now _ _ _ _ _ c.rows-rows.ensures (omega (arith, c.loop-k.invariant.0.room)) (sym c.if-is-for.ensures) c.loop-k.invariant.1)
+    (c.loop-k.invariant.0, try-next c.rows-rows.result.now _ _ _ _ _ c.rows-rows.ensures (omega (arith, c.loop-k.invariant.0.room)) (sym c.if-is_for.ensures) c.loop-k.invariant.1)
 
 pub returns : goal.returns
 returns c =

@@ -1,4 +1,4 @@
-use Rattle.std.proofs.Common.{◌≡◌, ◌≤◌, drop}
+use Rattle.std.proofs.Common.{◌≡◌, drop}
 use Rattle.rule.specs.Format.{format}
 use Rattle.rule.specs.Lookup.{sought, row_of}
 use Rattle.rule.proofs.Sought.{Standing}

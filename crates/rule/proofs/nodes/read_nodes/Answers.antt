@@ -1,6 +1,6 @@
-use Rattle.std.proofs.Common.{◌≡◌, ℕ, ◌+◌, ◌<◌, ◌≤◌, List, length, refl, ◌∙◌, arith, length-set, length-take}
+use Rattle.std.proofs.Common.{ℕ, ◌+◌, ◌<◌, ◌≤◌, List, length, refl, ◌∙◌, arith, length-set, length-take}
 use Rattle.rule.specs.declared.fault.Fault.TheVariants.{TooLong, CutShort}
-use Rattle.rule.specs.Intake.{Refused, Read, Short, Whole}
+use Rattle.rule.specs.Intake.{Refused, Short}
 use Rattle.rule.specs.Run.{kids_at}
 use Rattle.rule.proofs.Grounds.{upto-none, upto-more, refused-at}
 use Rattle.rule.proofs.Laid.{Found, found_none, found-more, found_all, found-cut}

@@ -3,10 +3,10 @@ use Rattle.std.proofs.lemmas.Bool.Decides.{nat_tests}
 use Rattle.sameness.specs.Deciding.{reversed_test}
 use Rattle.sameness.proofs.words.is_reversed.Goals as goal
 
-pub returns-then-swap-binop : goal.returns-then-swap-binop
+pub returns-then-swap_binop : goal.returns-then-swap_binop
 unfolding reversed_test
-returns-then-swap-binop c = grind (arith, nat_tests)
+returns-then-swap_binop c = grind (arith, nat_tests)
 
-pub returns-else-swap-binop : goal.returns-else-swap-binop
+pub returns-else-swap_binop : goal.returns-else-swap_binop
 unfolding reversed_test
-returns-else-swap-binop c = grind (arith, nat_tests)
+returns-else-swap_binop c = grind (arith, nat_tests)

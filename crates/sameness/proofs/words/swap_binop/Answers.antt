@@ -27,6 +27,6 @@ pub returns-in-17 : goal.returns-in-17
 unfolding reverses_test
 returns-in-17 c = grind (arith, nat_tests)
 
-pub returns-in-default : goal.returns-in-default
+pub returns-in_default : goal.returns-in_default
 unfolding reverses_test
-returns-in-default c = grind (arith, nat_tests)
+returns-in_default c = grind (arith, nat_tests)

@@ -2,15 +2,15 @@ use Rattle.scripts.proofs.Soles.{handed, passed}
 use Rattle.scripts.proofs.Headed.{named-sole, named-missing, named_more}
 use Rattle.scripts.proofs.heading.read_hasher_name.Goals as goal
 
-pub returns-in-err-hasher : goal.returns-in-err-hasher
-returns-in-err-hasher c =
-    handed _ _ _ c.from-residual.result c.in-err-hasher.field-0.0 c.from-residual.ensures.1
-    (passed _ _ _ _ (named-missing c.args.text.now) c.in-err-hasher.ensures)
+pub returns-in_err-hasher : goal.returns-in_err-hasher
+returns-in_err-hasher c =
+    handed _ _ _ c.from_residual.result c.in_err-hasher.field-0.0 c.from_residual.ensures.1
+    (passed _ _ _ _ (named-missing c.args.text.now) c.in_err-hasher.ensures)
 
-pub returns-in-err-read-end : goal.returns-in-err-read-end
-returns-in-err-read-end c =
-    handed _ _ _ c.from-residual-in-err-read-end.result c.in-err-read-end.field-0.0 c.from-residual-in-err-read-end.ensures.1
-    (passed _ _ _ _ (named_more c.args.text.now c.in-ok-hasher.rest.now c.in-ok-hasher.hasher c.in-ok-hasher.ensures) c.in-err-read-end.ensures)
+pub returns-in_err-read_end : goal.returns-in_err-read_end
+returns-in_err-read_end c =
+    handed _ _ _ c.from_residual-in_err-read_end.result c.in_err-read_end.field-0.0 c.from_residual-in_err-read_end.ensures.1
+    (passed _ _ _ _ (named_more c.args.text.now c.in_ok-hasher.rest.now c.in_ok-hasher.hasher c.in_ok-hasher.ensures) c.in_err-read_end.ensures)
 
 pub returns : goal.returns
-returns c = named-sole c.args.text.now c.in-ok-hasher.rest.now c.in-ok-hasher.hasher c.in-ok-hasher.ensures c.in-ok-read-end.ensures.holds
+returns c = named-sole c.args.text.now c.in_ok-hasher.rest.now c.in_ok-hasher.hasher c.in_ok-hasher.ensures c.in_ok-read_end.ensures.holds

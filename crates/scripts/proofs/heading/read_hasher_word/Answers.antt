@@ -4,8 +4,8 @@ use Rattle.scripts.proofs.Soles.{refused}
 use Rattle.scripts.proofs.Words.{hasher-same, word-sole, word-missing, word-other}
 use Rattle.scripts.proofs.heading.read_hasher_word.Goals as goal
 
-pub returns-in-default : goal.returns-in-default
-returns-in-default c = inr (c.missing.ensures, word-missing spelling c.args.text.now c.in-default.ensures)
+pub returns-in_default : goal.returns-in_default
+returns-in_default c = inr (c.missing.ensures, word-missing spelling c.args.text.now c.in_default.ensures)
 
 pub returns-in-Some-of : goal.returns-in-Some-of
 returns-in-Some-of c = word-sole spelling c.args.text.now hasher-same c.in-Some.piece.now c.in-Some.rest.now _ c.in-Some.ensures c.in-Some-of.ensures

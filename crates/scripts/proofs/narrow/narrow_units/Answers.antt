@@ -7,7 +7,7 @@ pub loop-unit-preserved : goal.loop-unit-preserved
 loop-unit-preserved c =
     let units = c.args.units.now in
     let i = c.loop-unit.unit-index in
-    chosen _ _ _ _ c.push.ensures.items (ap is_ok c.in-ok-push.was)
+    chosen _ _ _ _ c.push.ensures.items (ap is_ok c.in_ok-push.was)
     ∙ ap (λ l. l ++ (get_or units i 0 ∷ [])) c.loop-unit.invariant ∙ sym (take_more units i 0 c.loop-unit-test.true)
 
 pub returns : goal.returns

@@ -3,8 +3,8 @@ use Rattle.scripts.proofs.Numbers.{number-sole, number-missing, number-bad}
 use Rattle.scripts.proofs.Soles.{refused}
 use Rattle.scripts.proofs.pieces.read_number.Goals as goal
 
-pub returns-in-default : goal.returns-in-default
-returns-in-default c = inr (c.missing.ensures, number-missing c.args.text.now c.in-default.ensures)
+pub returns-in_default : goal.returns-in_default
+returns-in_default c = inr (c.missing.ensures, number-missing c.args.text.now c.in_default.ensures)
 
 pub returns-in-Ok : goal.returns-in-Ok
 returns-in-Ok c =

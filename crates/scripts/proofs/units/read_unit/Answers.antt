@@ -2,8 +2,8 @@ use Rattle.scripts.proofs.Numbers.{unit-sole, unit-bad, unit-above}
 use Rattle.scripts.proofs.Soles.{refused}
 use Rattle.scripts.proofs.units.read_unit.Goals as goal
 
-pub returns-in-default : goal.returns-in-default
-returns-in-default c = refused _ _ _ c.found.ensures (unit-bad c.args.limit c.args.piece.now c.in-default.field-0 c.in-default.ensures.cases)
+pub returns-in_default : goal.returns-in_default
+returns-in_default c = refused _ _ _ c.found.ensures (unit-bad c.args.limit c.args.piece.now c.in_default.field-0 c.in_default.ensures.cases)
 
 pub returns-then-word-limit : goal.returns-then-word-limit
 returns-then-word-limit c =

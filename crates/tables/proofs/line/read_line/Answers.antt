@@ -9,60 +9,60 @@ use Rattle.tables.specs.declared.line.Entry.{Entry}
 use Rattle.tables.proofs.Faults.{line-fault, all-blank}
 use Rattle.tables.proofs.Sole.{keeps-rules}
 use Rattle.tables.proofs.line.read_line.Goals as goal
-use Rattle.tables.proofs.line.read_line.Goals.{Else-is-skipped, In-Some}
+use Rattle.tables.proofs.line.read_line.Goals.{Else-is_skipped, In-Some}
 
-plain : (c : Else-is-skipped) → skipped c.before-return-content.result.now ≡ false
-plain c = sym c.is-skipped.ensures ∙ c.if-is-skipped.false
+plain : (c : Else-is_skipped) → skipped c.before_return-content.result.now ≡ false
+plain c = sym c.is_skipped.ensures ∙ c.if-is_skipped.false
 
-parted : (c : In-Some) → Parted c.before-return-content.result.now c.in-Some.front.now c.in-Some.run'.now
+parted : (c : In-Some) → Parted c.before_return-content.result.now c.in-Some.front.now c.in-Some.run'.now
 parted c =
-    let parts = split_parts 58 c.before-return-content.result.now (Some (c.in-Some.front, c.in-Some.run')) c.in-Some.ensures.cases (lit< tt) in
+    let parts = split_parts 58 c.before_return-content.result.now (Some (c.in-Some.front, c.in-Some.run')) c.in-Some.ensures.cases (lit< tt) in
     record { whole = parts.0; first = parts.1 }
 
 -- what is read, and that no rule is refused
-kept : (c : Else-is-skipped) (r : Result (Option Entry) TableFault) → LineAs c.args.line c.before-return-content.result.now r → LineAs c.args.line (content c.args.text.now) r × KeepsRules c.args.line (content c.args.text.now) r
+kept : (c : Else-is_skipped) (r : Result (Option Entry) TableFault) → LineAs c.args.line c.before_return-content.result.now r → LineAs c.args.line (content c.args.text.now) r × KeepsRules c.args.line (content c.args.text.now) r
 kept c r h =
-    let told = subst (λ bs. LineAs c.args.line bs r) c.before-return-content.ensures h in
+    let told = subst (λ bs. LineAs c.args.line bs r) c.before_return-content.ensures h in
     (told, keeps-rules c.args.line (content c.args.text.now) r told)
 
-pub returns-in-default : goal.returns-in-default
-returns-in-default c =
-    let at = goal.at.returns-in-default c in
-    let both = kept at.Else-is-skipped (Err (NoColon c.args.line)) (plain at.Else-is-skipped, (refl, split_parts 58 c.before-return-content.result.now None c.in-default.ensures.cases (lit< tt))) in
+pub returns-in_default : goal.returns-in_default
+returns-in_default c =
+    let at = goal.at.returns-in_default c in
+    let both = kept at.Else-is_skipped (Err (NoColon c.args.line)) (plain at.Else-is_skipped, (refl, split_parts 58 c.before_return-content.result.now None c.in_default.ensures.cases (lit< tt))) in
     record { reads = both.0; keeps = both.1 }
 
-pub returns-then-is-empty : goal.returns-then-is-empty
-returns-then-is-empty c =
-    let at = goal.at.returns-then-is-empty c in
-    let both = kept at.Else-is-skipped (Err (NoName c.args.line))
-    (plain at.Else-is-skipped, (refl, (_, _, parted at.In-Some, all-blank _ _ c.trim-blanks-name.ensures (true-eqb _ 0 c.if-is-empty.ensures)))) in
+pub returns-then-is_empty : goal.returns-then-is_empty
+returns-then-is_empty c =
+    let at = goal.at.returns-then-is_empty c in
+    let both = kept at.Else-is_skipped (Err (NoName c.args.line))
+    (plain at.Else-is_skipped, (refl, (_, _, parted at.In-Some, all-blank _ _ c.trim_blanks-name.ensures (true-eqb _ 0 c.if-is_empty.ensures)))) in
     record { reads = both.0; keeps = both.1 }
 
-pub returns-in-err-words : goal.returns-in-err-words
-returns-in-err-words c =
-    let p = err_from_is_err_and c.from-residual.result c.from-residual.ensures.1 in
-    let at = goal.at.returns-in-err-words c in
-    let f = c.in-err-words.field-0.0 in
-    let both = kept at.Else-is-skipped c.from-residual.result
-    (subst (LineAs c.args.line c.before-return-content.result.now) (sym (p.1 ∙ ap Err p.2))
-    (plain at.Else-is-skipped, line-fault c.args.line _ _ _ f (parted at.In-Some) c.in-err-words.ensures)) in
+pub returns-in_err-words : goal.returns-in_err-words
+returns-in_err-words c =
+    let p = err_from_is_err_and c.from_residual.result c.from_residual.ensures.1 in
+    let at = goal.at.returns-in_err-words c in
+    let f = c.in_err-words.field-0.0 in
+    let both = kept at.Else-is_skipped c.from_residual.result
+    (subst (LineAs c.args.line c.before_return-content.result.now) (sym (p.1 ∙ ap Err p.2))
+    (plain at.Else-is_skipped, line-fault c.args.line _ _ _ f (parted at.In-Some) c.in_err-words.ensures)) in
     record { reads = both.0; keeps = both.1 }
 
 pub returns : goal.returns
 returns c =
-    let name = IfOk-at_ok (λ s. string_bytes s ≡ c.trim-blanks-name.result.now) c.in-ok-name.was c.from-str.ensures.ok in
-    let some : 0 < length c.trim-blanks-name.result.now = omega (arith, false-eqb _ 0 c.if-is-empty.ensures) in
+    let name = IfOk-at_ok (λ s. string_bytes s ≡ c.trim_blanks-name.result.now) c.in_ok-name.was c.from_str.ensures.ok in
+    let some : 0 < length c.trim_blanks-name.result.now = omega (arith, false-eqb _ 0 c.if-is_empty.ensures) in
     let at = goal.at.returns c in
-    let entry : Entry = record { name = c.in-ok-name.name; words = c.in-ok-words.words; line = c.args.line } in
-    let both = kept at.Else-is-skipped (Ok (Some entry)) (
-      plain at.Else-is-skipped,
+    let entry : Entry = record { name = c.in_ok-name.name; words = c.in_ok-words.words; line = c.args.line } in
+    let both = kept at.Else-is_skipped (Ok (Some entry)) (
+      plain at.Else-is_skipped,
       record {
         front = c.in-Some.front.now;
         run = c.in-Some.run'.now;
         parted = parted at.In-Some;
-        trimmed = subst (Trimmed c.in-Some.front.now) (sym name) c.trim-blanks-name.ensures;
+        trimmed = subst (Trimmed c.in-Some.front.now) (sym name) c.trim_blanks-name.ensures;
         named = subst (λ l. 0 < length l) (sym name) some;
-        words = c.in-ok-words.ensures;
+        words = c.in_ok-words.ensures;
         place = refl;
       },
     ) in

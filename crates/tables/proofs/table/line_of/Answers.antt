@@ -1,16 +1,16 @@
-use Rattle.std.proofs.Common.{◌≡◌, ◌+◌, ◌-◌, length, take, sym, refl, ap, ◌∙◌, arith, length-take}
+use Rattle.std.proofs.Common.{◌≡◌, ◌-◌, length, take, ap, ◌∙◌, arith, length-take}
 use Rattle.std.proofs.lemmas.List.{take_all}
 use Rattle.tables.specs.Rules.{lines}
 use Rattle.tables.proofs.Rows.{lines-length, feed-more, other-more}
 use Rattle.tables.proofs.table.line_of.Goals as goal
 use Rattle.tables.proofs.table.line_of.Goals.{then-b-eq10, else-b-eq10}
 
-pub overflow-add-line : goal.overflow-add-line
-overflow-add-line c =
+pub overflow_add-line : goal.overflow_add-line
+overflow_add-line c =
     let items = take (c.args.at - 0) c.args.bytes.now in
     let seen = take c.loop-b.b-index items in
     let inv : c.loop-b.line ≡ length (lines seen) = c.loop-b.invariant in
-    omega (arith, c.well-formed, inv, lines-length seen, length-take c.loop-b.b-index items, length-take (c.args.at - 0) c.args.bytes.now)
+    omega (arith, c.well_formed, inv, lines-length seen, length-take c.loop-b.b-index items, length-take (c.args.at - 0) c.args.bytes.now)
 
 pub loop-b-preserved : goal.loop-b-preserved
 loop-b-preserved c =

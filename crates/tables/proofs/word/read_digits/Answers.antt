@@ -1,14 +1,14 @@
-use Rattle.std.proofs.Common.{◌≡◌, ◌+◌, ◌*◌, ◌^◌, ◌<◌, ◌≤◌, min, length, get_or, take, sym, ap, ◌∙◌, subst, arith, false-eqb}
+use Rattle.std.proofs.Common.{◌+◌, ◌*◌, ◌^◌, ◌<◌, ◌≤◌, min, length, take, sym, ap, ◌∙◌, subst, arith, false-eqb}
 use Rattle.std.specs.Str.Parse.{digits_value}
 use Rattle.std.specs.Char.{digit_value}
 use Rattle.std.proofs.lemmas.Int.Digits.{digits_more, digits_value_more}
 use Rattle.tables.proofs.Numbers.{bad-digit, capped, all_seen, at-limit, under-limit}
 use Rattle.tables.proofs.word.read_digits.Goals as goal
 
-pub returns-in-default : goal.returns-in-default
-returns-in-default c = λ n.
+pub returns-in_default : goal.returns-in_default
+returns-in_default c = λ n.
     bad-digit c.args.radix c.args.digits.now c.loop-b.b-index c.loop-b-test.true
-    (subst (λ b. digit_value b < c.args.radix → ⊥) c.from.ensures c.in-default.ensures.value) n.1
+    (subst (λ b. digit_value b < c.args.radix → ⊥) c.from.ensures c.in_default.ensures.value) n.1
 
 pub loop-b-preserved : goal.loop-b-preserved
 loop-b-preserved c =
@@ -28,13 +28,13 @@ loop-b-preserved c =
 
 pub returns-then-value-eq-LIMIT : goal.returns-then-value-eq-LIMIT
 returns-then-value-eq-LIMIT c =
-    let some : 0 < length c.args.digits.now = omega (arith, false-eqb _ 0 c.if-is-empty.ensures) in
+    let some : 0 < length c.args.digits.now = omega (arith, false-eqb _ 0 c.if-is_empty.ensures) in
     let seen = all_seen _ _ _ _ c.loop-b-test.false some c.loop-b.invariant.0 c.loop-b.invariant.1 in
     (seen.0, at-limit _ _ seen.1 c.if-value-eq-LIMIT.true)
 
 pub returns : goal.returns
 returns c =
-    let some : 0 < length c.args.digits.now = omega (arith, false-eqb _ 0 c.if-is-empty.ensures) in
+    let some : 0 < length c.args.digits.now = omega (arith, false-eqb _ 0 c.if-is_empty.ensures) in
     let seen = all_seen _ _ _ _ c.loop-b-test.false some c.loop-b.invariant.0 c.loop-b.invariant.1 in
     let told = under-limit _ _ seen.1 c.if-value-eq-LIMIT.false in
     (seen.0, told.0, told.1)

@@ -4,30 +4,30 @@ use Rattle.trial.proofs.pairs.paired.Goals as goal
 use Rattle.trial.specs.Table.{paired}
 use Rattle.std.proofs.Common.{sym, arith}
 
-pub returns-then-not-has-places : goal.returns-then-not-has-places
+pub returns-then-not-has_places : goal.returns-then-not-has_places
 unfolding paired
-returns-then-not-has-places c =
-    let lacks = c.if-not-has-places.ensures in
+returns-then-not-has_places c =
+    let lacks = c.if-not-has_places.ensures in
     grind (arith, nat_tests)
 
 pub bounds-table-l : goal.bounds-table-l
 bounds-table-l c =
-    let w = placed-within c.args.table.now c.args.l c.args.r (sym c.if-not-has-places.ensures) in
+    let w = placed-within c.args.table.now c.args.l c.args.r (sym c.if-not-has_places.ensures) in
     omega arith
 
 pub bounds-table-r : goal.bounds-table-r
 bounds-table-r c =
-    let w = placed-within c.args.table.now c.args.l c.args.r (sym c.if-not-has-places.ensures) in
+    let w = placed-within c.args.table.now c.args.l c.args.r (sym c.if-not-has_places.ensures) in
     omega arith
 
 pub returns-then-table-l : goal.returns-then-table-l
 unfolding paired
 returns-then-table-l c =
-    let has = c.if-not-has-places.ensures in
+    let has = c.if-not-has_places.ensures in
     grind (arith, nat_tests)
 
 pub returns-else-table-l : goal.returns-else-table-l
 unfolding paired
 returns-else-table-l c =
-    let has = c.if-not-has-places.ensures in
+    let has = c.if-not-has_places.ensures in
     grind (arith, nat_tests)

@@ -7,20 +7,20 @@ use Rattle.std.proofs.Common.{sym, arith}
 
 pub bounds-table-l : goal.bounds-table-l
 bounds-table-l c =
-    let w = placed-within c.args.table.now c.args.l c.args.r (sym c.if-has-places.ensures) in
+    let w = placed-within c.args.table.now c.args.l c.args.r (sym c.if-has_places.ensures) in
     omega arith
 
 pub bounds-table-r : goal.bounds-table-r
 bounds-table-r c =
-    let w = placed-within c.args.table.now c.args.l c.args.r (sym c.if-has-places.ensures) in
+    let w = placed-within c.args.table.now c.args.l c.args.r (sym c.if-has_places.ensures) in
     omega (arith, length-set c.args.table.now c.args.l c.args.r)
 
-pub returns-then-has-places : goal.returns-then-has-places
+pub returns-then-has_places : goal.returns-then-has_places
 unfolding recorded
-returns-then-has-places c =
-    sym (cond-true (placed c.args.table.now c.args.l c.args.r) _ _ (sym c.if-has-places.ensures))
+returns-then-has_places c =
+    sym (cond-true (placed c.args.table.now c.args.l c.args.r) _ _ (sym c.if-has_places.ensures))
 
-pub returns-else-has-places : goal.returns-else-has-places
+pub returns-else-has_places : goal.returns-else-has_places
 unfolding recorded
-returns-else-has-places c =
-    sym (cond-false (placed c.args.table.now c.args.l c.args.r) _ _ (sym c.if-has-places.ensures))
+returns-else-has_places c =
+    sym (cond-false (placed c.args.table.now c.args.l c.args.r) _ _ (sym c.if-has_places.ensures))

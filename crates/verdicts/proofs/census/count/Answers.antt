@@ -3,7 +3,7 @@ use Rattle.std.proofs.lemmas.List.{at_drop_all}
 use Rattle.verdicts.specs.Outcomes.{counted, is_kind}
 use Rattle.verdicts.proofs.CountedOutcomes.{one_more, no_more}
 use Rattle.verdicts.proofs.census.count.Goals as goal
-use Rattle.verdicts.proofs.census.count.Goals.{then_is, else_is}
+use Rattle.verdicts.proofs.census.count.Goals.{then-is, else-is}
 
 pub loop-outcome-preserved : goal.loop-outcome-preserved
 loop-outcome-preserved c =
@@ -12,8 +12,8 @@ loop-outcome-preserved c =
     let i = c.loop-outcome.outcome-index in
     let told = sym (c.is.ensures ∙ ap (λ o. is_kind o k) c.kind.ensures) in
     elim c.if-is.branch [
-      | then_is w ↦ (omega (arith, w.n-is, c.loop-outcome.invariant.0, one_more k os i c.loop-outcome-test.true (told ∙ w.if-is.true)), omega (arith, w.n-is, c.loop-outcome.invariant.1))
-      | else_is w ↦ (omega (arith, w.n-is, c.loop-outcome.invariant.0, no_more k os i c.loop-outcome-test.true (told ∙ w.if-is.false)), omega (arith, w.n-is, c.loop-outcome.invariant.1))
+      | then-is w ↦ (omega (arith, w.n-is, c.loop-outcome.invariant.0, one_more k os i c.loop-outcome-test.true (told ∙ w.if-is.true)), omega (arith, w.n-is, c.loop-outcome.invariant.1))
+      | else-is w ↦ (omega (arith, w.n-is, c.loop-outcome.invariant.0, no_more k os i c.loop-outcome-test.true (told ∙ w.if-is.false)), omega (arith, w.n-is, c.loop-outcome.invariant.1))
     ]
 
 pub returns : goal.returns

@@ -4,7 +4,7 @@ use Rattle.verdicts.specs.Outcomes.{is_kind}
 use Rattle.verdicts.specs.Censuses.{counted_lines}
 use Rattle.verdicts.proofs.Counting.{one_more, no_more}
 use Rattle.verdicts.proofs.census.count_lines.Goals as goal
-use Rattle.verdicts.proofs.census.count_lines.Goals.{then_is, else_is}
+use Rattle.verdicts.proofs.census.count_lines.Goals.{then-is, else-is}
 
 pub loop-line-preserved : goal.loop-line-preserved
 loop-line-preserved c =
@@ -13,8 +13,8 @@ loop-line-preserved c =
     let i = c.loop-line.line-index in
     let told = sym (c.is.ensures ∙ ap (λ o. is_kind o k) c.kind.ensures) in
     elim c.if-is.branch [
-      | then_is w ↦ (omega (arith, w.n-is, c.loop-line.invariant.0, one_more k ls i _ c.loop-line-test.true (told ∙ w.if-is.true)), omega (arith, w.n-is, c.loop-line.invariant.1))
-      | else_is w ↦ (omega (arith, w.n-is, c.loop-line.invariant.0, no_more k ls i _ c.loop-line-test.true (told ∙ w.if-is.false)), omega (arith, w.n-is, c.loop-line.invariant.1))
+      | then-is w ↦ (omega (arith, w.n-is, c.loop-line.invariant.0, one_more k ls i _ c.loop-line-test.true (told ∙ w.if-is.true)), omega (arith, w.n-is, c.loop-line.invariant.1))
+      | else-is w ↦ (omega (arith, w.n-is, c.loop-line.invariant.0, no_more k ls i _ c.loop-line-test.true (told ∙ w.if-is.false)), omega (arith, w.n-is, c.loop-line.invariant.1))
     ]
 
 pub returns : goal.returns

@@ -19,6 +19,6 @@ returns c =
         other,
         c.in-Some.ensures indexed,
         c.in-Some-find.ensures indexed,
-        answered-at c.as-slice.result.now (words_of one) c.as-slice-2.result.now (words_of other) c.compare-rules-answer.result c.as-slice.ensures.value c.as-slice-2.ensures.value c.compare-rules-answer.ensures,
+        answered-at c.as_slice.result.now (words_of one) c.as_slice-2.result.now (words_of other) c.compare_rules-answer.result c.as_slice.ensures.value c.as_slice-2.ensures.value c.compare_rules-answer.ensures,
       ),
     )

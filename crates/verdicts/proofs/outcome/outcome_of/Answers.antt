@@ -1,4 +1,4 @@
-use Rattle.std.proofs.Common.{◌≡◌, sym, subst}
+use Rattle.std.proofs.Common.{sym, subst}
 use Rattle.verdicts.specs.Outcomes.{JudgedAs}
 use Rattle.verdicts.proofs.Judging.{judged-by}
 use Rattle.verdicts.proofs.outcome.outcome_of.Goals as goal

@@ -1,11 +1,11 @@
-use Rattle.std.proofs.Common.{◌≡◌, ◌+◌, Bool, true, false, not, take, vec_items, sym, ap, ◌∙◌, subst}
+use Rattle.std.proofs.Common.{◌+◌, not, take, vec_items, sym, ap, ◌∙◌, subst}
 use Rattle.std.proofs.lemmas.List.{take_all}
 use Rattle.tables.specs.Rules.{name_of}
 use Rattle.verdicts.specs.Names.{FoundAs}
 use Rattle.verdicts.specs.Surveys.{WithNew}
 use Rattle.verdicts.proofs.Surveying.{found-step, new-step}
 use Rattle.verdicts.proofs.survey.with_new_lines.Goals as goal
-use Rattle.verdicts.proofs.survey.with_new_lines.Goals.{then-is-none+in-ok-push, else-is-none}
+use Rattle.verdicts.proofs.survey.with_new_lines.Goals.{then-is_none+in_ok-push, else-is_none}
 
 pub loop-entry-preserved : goal.loop-entry-preserved
 loop-entry-preserved c =
@@ -13,14 +13,14 @@ loop-entry-preserved c =
     let new = c.args.new.now in
     let i = c.loop-entry.entry-index in
     let e = c.entry-item.result in
-    let found : FoundAs old (name_of e) c.find.result = subst (λ name. FoundAs old name c.find.result) c.as-str-name.ensures.value (c.find.ensures c.in-ok-names.ensures) in
-    elim c.if-is-none.branch [
-      | then-is-none+in-ok-push w ↦
+    let found : FoundAs old (name_of e) c.find.result = subst (λ name. FoundAs old name c.find.result) c.as_str-name.ensures.value (c.find.ensures c.in_ok-names.ensures) in
+    elim c.if-is_none.branch [
+      | then-is_none+in_ok-push w ↦
           subst (λ v. WithNew old (take (i + 1) new) (vec_items c.args.lines) (vec_items v)) (sym w.lines-is)
-          (new-step old new i (vec_items c.args.lines) (vec_items c.loop-entry.lines) (vec_items w.push.new.self) e w.new-line.result c.find.result c.loop-entry-test.true c.entry-item.is c.loop-entry.invariant found (c.is-none.ensures ∙ ap not w.if-is-none.true) w.new-line.ensures w.in-ok-push.ensures.items)
-      | else-is-none w ↦
+          (new-step old new i (vec_items c.args.lines) (vec_items c.loop-entry.lines) (vec_items w.push.new.self) e w.new_line.result c.find.result c.loop-entry-test.true c.entry-item.is c.loop-entry.invariant found (c.is_none.ensures ∙ ap not w.if-is_none.true) w.new_line.ensures w.in_ok-push.ensures.items)
+      | else-is_none w ↦
           subst (λ v. WithNew old (take (i + 1) new) (vec_items c.args.lines) (vec_items v)) (sym w.lines-is)
-          (found-step old new i (vec_items c.args.lines) (vec_items c.loop-entry.lines) e c.find.result c.loop-entry-test.true c.entry-item.is c.loop-entry.invariant found (c.is-none.ensures ∙ ap not w.if-is-none.false))
+          (found-step old new i (vec_items c.args.lines) (vec_items c.loop-entry.lines) e c.find.result c.loop-entry-test.true c.entry-item.is c.loop-entry.invariant found (c.is_none.ensures ∙ ap not w.if-is_none.false))
     ]
 
 pub returns : goal.returns

@@ -1,4 +1,4 @@
-use Rattle.std.proofs.Common.{◌≡◌, refl, arith, rules}
+use Rattle.std.proofs.Common.{rules}
 use Rattle.kinds.proofs.Judging.{refused-not}
 use Rattle.kinds.proofs.rules.RulesKind.compare.Goals as goal
 

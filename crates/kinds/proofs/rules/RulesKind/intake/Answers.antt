@@ -1,5 +1,5 @@
 use Rattle.std.proofs.Common.{refl, arith}
-use Rattle.rule.specs.declared.fault.Fault.TheVariants.{TooLong, CutShort, OutsideRow, NotATree, WrongClass, BadScope, SameAsNothing}
+use Rattle.rule.specs.declared.fault.Fault.TheVariants.{TooLong}
 use Rattle.kinds.proofs.Numbers.{none_below}
 use Rattle.kinds.proofs.rules.RulesKind.intake.Goals as goal
 

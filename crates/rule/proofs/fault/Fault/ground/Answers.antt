@@ -1,5 +1,4 @@
-use Rattle.std.proofs.Common.{refl, ap}
-use Rattle.rule.specs.Faults.{ground_of}
+use Rattle.std.proofs.Common.{refl}
 use Rattle.rule.proofs.fault.Fault.ground.Goals as goal
 
 pub returns-in-TooLong : goal.returns-in-TooLong

@@ -5,7 +5,7 @@ use Rattle.verdicts.specs.declared.verdict.Verdict.{Verdict}
 use Rattle.verdicts.specs.declared.verdict.Verdict.TheVariants.{Accepted, Refused}
 use Rattle.verdicts.specs.Verdicts.{acceptances}
 use Rattle.verdicts.proofs.verdict.Tally.of.Goals as goal
-use Rattle.verdicts.proofs.verdict.Tally.of.Goals.{in-Accepted, in-default}
+use Rattle.verdicts.proofs.verdict.Tally.of.Goals.{in-Accepted, in_default}
 
 one-accepted : (vs : List Verdict) (i : ℕ) → i < length vs → get_or vs i Accepted ≡ Accepted → acceptances (drop i vs) ≡ 1 + acceptances (drop (i + 1) vs)
 one-accepted vs i l e = at_drop_more acceptances vs i Accepted l ∙ ap (λ v. acceptances (v ∷ drop (i + 1) vs)) e
@@ -19,7 +19,7 @@ loop-v-preserved c =
     let i = c.loop-v.v-index in
     elim c.match-v.branch [
       | in-Accepted w ↦ (omega (arith, w.accepted-is, c.loop-v.invariant.0, one-accepted vs i c.loop-v-test.true w.in-Accepted.is), omega (arith, w.accepted-is, c.loop-v.invariant.1))
-      | in-default w ↦ (omega (arith, w.accepted-is, c.loop-v.invariant.0, one-refused vs i w.in-default.field-0 c.loop-v-test.true w.in-default.is), omega (arith, w.accepted-is, c.loop-v.invariant.1))
+      | in_default w ↦ (omega (arith, w.accepted-is, c.loop-v.invariant.0, one-refused vs i w.in_default.field-0 c.loop-v-test.true w.in_default.is), omega (arith, w.accepted-is, c.loop-v.invariant.1))
     ]
 
 pub returns : goal.returns
