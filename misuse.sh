@@ -11,8 +11,7 @@ trap 'exit 1' HUP INT TERM
 
 copy_to() {
     mkdir "$1"
-    cp "$top/crates.txt" "$1/"
-    cp -R "$top/crates" "$1/"
+    (cd "$top" && tar --exclude=out -cf - crates crates.txt) | (cd "$1" && tar -xf -)
 }
 
 fail() {
@@ -42,7 +41,7 @@ misuse() {
     rm -rf "$work/refused"
     copy_to "$work/refused"
     cat "$work/function" >> "$work/refused/crates/$2/src/lib.rt"
-    if (cd "$work/refused" && rt check "$2") > "$work/log" 2>&1; then
+    if (cd "$work/refused/crates/$2" && rt check) > "$work/log" 2>&1; then
         fail "$1: NOT REFUSED"
     fi
     grep -F "error[$3]" "$work/log" > "$work/wanted" || fail_by_log "$1: refused, but not by $3"
@@ -53,7 +52,7 @@ misuse() {
 # The same functions without their misuse.
 without_misuse() {
     for crate in $crates; do
-        (cd "$work/allowed" && rt check "$crate") > "$work/log" 2>&1 || fail_by_log "$crate: a function does not pass without its misuse either"
+        (cd "$work/allowed/crates/$crate" && rt check) > "$work/log" 2>&1 || fail_by_log "$crate: a function does not pass without its misuse either"
         echo "$crate: without its misuse each function passes"
     done
 }
