@@ -3,15 +3,11 @@ use Rattle.std.specs.Prelude.{◌≡◌, ◌≤◌, ◌⊎◌, List, length, dro
 use Rattle.std.specs.declared.alloc.Global.{Global}
 use Rattle.arguments.specs.Files.{AloneAs, ChangedAs, ComparedAs, ScriptAs, TableAs}
 use Rattle.arguments.specs.Hashers.{HashedAs}
-use Rattle.arguments.specs.Misuses.{Finds, Is}
+use Rattle.arguments.specs.Misuses.{Finds, Helping, Is}
 use Rattle.arguments.specs.declared.command.Command.{Command}
 use Rattle.arguments.specs.declared.command.Command.TheVariants.{Help, Check, Compare, Change, Hash, Classes, Replay}
 use Rattle.arguments.specs.declared.misuse.Expected.TheVariants.{Command as NoCommand}
 use Rattle.arguments.specs.declared.misuse.Misuse.{Misuse}
-
--- the word at 1 asks for help
-abbrev pub Helping : List (String Global) → Type 0
-Helping args = Is args 1 (codes "help") ⊎ Is args 1 (codes "--help")
 
 -- the word at 1 is none of the commands
 abbrev pub Unknown : List (String Global) → Type 0

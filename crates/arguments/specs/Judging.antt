@@ -1,15 +1,12 @@
 -- What the arguments of the commands that judge rules ask for. Assumes nothing.
-use Rattle.std.specs.Prelude.{◌≡◌, ℕ, ◌<◌, ◌≤◌, List, length, Ok, Err, string_bytes, codes, Result, String, slice_index_or}
+use Rattle.std.specs.Prelude.{◌≡◌, ℕ, ◌≤◌, ◌⊎◌, List, length, drop, Ok, Err, codes, Result, String}
 use Rattle.std.specs.Borrow.{Bor}
 use Rattle.std.specs.declared.alloc.Global.{Global}
+use Rattle.arguments.specs.Misuses.{Helping, Is}
 use Rattle.arguments.specs.declared.judging.Command.{Command}
 use Rattle.arguments.specs.declared.judging.Command.TheVariants.{Help, Check, Compare, Change}
 use Rattle.arguments.specs.declared.judging.Misuse.{Misuse}
 use Rattle.arguments.specs.declared.judging.Misuse.TheVariants.{Unknown, NoTable, NoNames, NoNewTable, InputTwice, Surplus}
-
--- the argument at i is this text
-abbrev pub Is : List (String Global) → ℕ → List ℕ → Type 0
-Is args i text = (i < length args) × ((d : String Global) → text ≡ string_bytes (slice_index_or args i d))
 
 -- what one table after the command is read as
 abbrev pub TableAs : List (String Global) → Result (Bor (List ℕ)) Misuse → Type 0
@@ -59,3 +56,38 @@ ChangeAs rest (Err NoNewTable) = length rest ≡ 1
 ChangeAs rest (Err InputTwice) = (length rest ≡ 2) × Is rest 0 (codes "-") × Is rest 1 (codes "-")
 ChangeAs rest (Err (Surplus more)) = Is rest 2 more.now
 ChangeAs rest (Err (Unknown word)) = ⊥
+
+-- the word at 1 is none of the commands
+abbrev pub NoCommand : List (String Global) → Type 0
+NoCommand args =
+    (Is args 1 (codes "help") → ⊥) ×
+    (Is args 1 (codes "--help") → ⊥) ×
+    (Is args 1 (codes "check") → ⊥) ×
+    (Is args 1 (codes "compare") → ⊥) ×
+    (Is args 1 (codes "change") → ⊥)
+
+-- such a word is refused as that very word
+abbrev pub UnknownAs : List (String Global) → Misuse → Type 0
+UnknownAs args NoTable = ⊥
+UnknownAs args NoNames = ⊥
+UnknownAs args NoNewTable = ⊥
+UnknownAs args InputTwice = ⊥
+UnknownAs args (Surplus more) = ⊥
+UnknownAs args (Unknown word) = NoCommand args × Is args 1 word.now
+
+-- a command is refused where what stands after it is, and a word that is no command as such
+abbrev pub RefusedAs : List (String Global) → Misuse → Type 0
+RefusedAs args m =
+    (Helping args × AloneAs (drop 2 args) (Err m)) ⊎
+    (Is args 1 (codes "check") × TableAs (drop 2 args) (Err m)) ⊎
+    (Is args 1 (codes "compare") × CompareAs (drop 2 args) (Err m)) ⊎
+    (Is args 1 (codes "change") × ChangeAs (drop 2 args) (Err m)) ⊎
+    UnknownAs args m
+
+-- what all the arguments are read as: the first is the program's own name, the second the command
+abbrev pub JudgingAs : List (String Global) → Result Command Misuse → Type 0
+JudgingAs args (Ok Help) = (length args ≤ 1) ⊎ (Helping args × AloneAs (drop 2 args) (Ok Help))
+JudgingAs args (Ok (Check table)) = Is args 1 (codes "check") × TableAs (drop 2 args) (Ok table)
+JudgingAs args (Ok (Compare table first second)) = Is args 1 (codes "compare") × CompareAs (drop 2 args) (Ok (Compare table first second))
+JudgingAs args (Ok (Change old new)) = Is args 1 (codes "change") × ChangeAs (drop 2 args) (Ok (Change old new))
+JudgingAs args (Err misuse) = RefusedAs args misuse

@@ -1,5 +1,5 @@
 -- Arguments, and what can be wrong with them. Assumes nothing.
-use Rattle.std.specs.Prelude.{◌≡◌, ℕ, ◌<◌, List, length, Ok, Err, string_bytes, Result, String, slice_index_or}
+use Rattle.std.specs.Prelude.{◌≡◌, ℕ, ◌<◌, ◌⊎◌, List, length, Ok, Err, string_bytes, codes, Result, String, slice_index_or}
 use Rattle.std.specs.declared.alloc.Global.{Global}
 use Rattle.arguments.specs.declared.misuse.Expected.{Expected}
 use Rattle.arguments.specs.declared.misuse.Misuse.{Misuse}
@@ -8,6 +8,10 @@ use Rattle.arguments.specs.declared.misuse.Misuse.TheVariants.{Missing, Other}
 -- the argument at i is this text
 abbrev pub Is : List (String Global) → ℕ → List ℕ → Type 0
 Is args i text = (i < length args) × ((d : String Global) → text ≡ string_bytes (slice_index_or args i d))
+
+-- the word at 1 asks for help
+abbrev pub Helping : List (String Global) → Type 0
+Helping args = Is args 1 (codes "help") ⊎ Is args 1 (codes "--help")
 
 -- refused: the arguments end where this is expected
 abbrev pub Lacks : {A : Type 0} → Expected → Result A Misuse → Type 0

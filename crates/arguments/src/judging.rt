@@ -1,5 +1,5 @@
 // What the arguments of the commands that judge rules ask for: help, check, compare and change, and nothing of hashes or catalogues.
-ghost use Rattle.arguments.specs.Judging.{AloneAs, ChangeAs, CompareAs, TableAs};
+ghost use Rattle.arguments.specs.Judging.{AloneAs, ChangeAs, CompareAs, JudgingAs, TableAs};
 
 use std::fmt;
 
@@ -62,7 +62,9 @@ impl<'a> fmt::Display for Misuse<'a> {
 }
 
 // The first of the arguments is the program's own name.
-pub fn parse_args(args: &[String]) -> Result<Command<'_>, Misuse<'_>> {
+pub fn parse_args(args: &[String]) -> Result<Command<'_>, Misuse<'_>>
+    ensures { JudgingAs args.now result }
+{
     let [_, word, rest @ ..] = args else {
         return Ok(Command::Help);
     };

@@ -1,14 +1,20 @@
 // What arguments are read as, and what is said where they are wrong.
 use crate::command::parse_args;
-use std::alloc::Global;
+use crate::judging::{self, HELP};
+use std::alloc::{AllocError, Global};
 use std::process::Abort;
 use std::test::Fail;
 
-fn reads(rt: &impl Abort, heap: Global, line: &str, expected: &str) -> Result<(), Fail> {
-    let mut args = Vec::new(heap);
+fn words(heap: Global, line: &str) -> Result<Vec<String>, AllocError> {
+    let mut words = Vec::new(heap);
     for word in line.split_whitespace() {
-        args.push(String::from_str(heap, word)?)?;
+        words.push(String::from_str(heap, word)?)?;
     }
+    Ok(words)
+}
+
+fn reads(rt: &impl Abort, heap: Global, line: &str, expected: &str) -> Result<(), Fail> {
+    let args = words(heap, line)?;
     match parse_args(args.as_slice()) {
         Ok(command) => {
             assert_eq!(rt; format!(in heap; "{command:?}")?.as_str(), expected);
@@ -128,4 +134,79 @@ fn says_what_is_found(rt: HostRuntime) -> Result<(), Fail> {
     reads(&rt, heap, "judge hash --hasher fnv1a t x", more)?;
     reads(&rt, heap, "judge hash --hasher md5 t", unknown)?;
     reads(&rt, heap, "judge classes t --hasher md5", unknown)
+}
+
+// As `reads`, of the commands that judge rules alone: there the help follows what is wrong.
+fn judges(rt: &impl Abort, heap: Global, line: &str, expected: &str) -> Result<(), Fail> {
+    let args = words(heap, line)?;
+    match judging::parse_args(args.as_slice()) {
+        Ok(command) => {
+            assert_eq!(rt; format!(in heap; "{command:?}")?.as_str(), expected);
+            Ok(())
+        },
+        Err(misuse) => {
+            let expected = format!(in heap; "{expected}\n{HELP}")?;
+            assert_eq!(rt; format!(in heap; "{misuse}")?.as_str(), expected.as_str());
+            Ok(())
+        },
+    }
+}
+
+#[test]
+fn reads_commands_that_judge(rt: HostRuntime) -> Result<(), Fail> {
+    let heap = rt.alloc();
+    let table = "expected a table after the command";
+    let names = "expected two names of rules after the table";
+    let more = "expected no more arguments, found \"x\"";
+    judges(&rt, heap, "", "Help")?;
+    judges(&rt, heap, "judge", "Help")?;
+    judges(&rt, heap, "judge help", "Help")?;
+    judges(&rt, heap, "judge --help", "Help")?;
+    judges(&rt, heap, "judge help x", more)?;
+    judges(&rt, heap, "judge --help x", more)?;
+    judges(&rt, heap, "judge check t", "Check { table: \"t\" }")?;
+    judges(&rt, heap, "judge check", table)?;
+    judges(&rt, heap, "judge check t x", more)?;
+    judges(
+        &rt,
+        heap,
+        "judge compare t a b",
+        "Compare { table: \"t\", first: \"a\", second: \"b\" }",
+    )?;
+    judges(&rt, heap, "judge compare", table)?;
+    judges(&rt, heap, "judge compare t", names)?;
+    judges(&rt, heap, "judge compare t a", names)?;
+    judges(&rt, heap, "judge compare t a b x", more)?;
+    judges(
+        &rt,
+        heap,
+        "judge change - new",
+        "Change { old: \"-\", new: \"new\" }",
+    )?;
+    judges(
+        &rt,
+        heap,
+        "judge change old -",
+        "Change { old: \"old\", new: \"-\" }",
+    )?;
+    judges(&rt, heap, "judge change", table)?;
+    judges(
+        &rt,
+        heap,
+        "judge change t",
+        "expected a new table after the old one",
+    )?;
+    judges(
+        &rt,
+        heap,
+        "judge change - -",
+        "expected standard input for at most one table, found - twice",
+    )?;
+    judges(&rt, heap, "judge change a b x", more)?;
+    judges(
+        &rt,
+        heap,
+        "judge hash t",
+        "expected a command, found \"hash\"",
+    )
 }

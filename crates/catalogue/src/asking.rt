@@ -19,7 +19,7 @@ pub fn class_count<K: Kind, H: Hasher>(
     units: &[K::Unit],
 ) -> usize
     ensures count { result ≡ cat.now.classes }
-    ensures promise { Promised (sense K.Kind.meets K.Kind.same K.Kind.feed kind.now) (of_words H.Hasher.begun H.Hasher.fed H.Hasher.ended)
+    ensures promise { Promised (sense K.meets K.same K.feed kind.now) (of_words H.begun H.fed H.ended)
         (state cat.now slots.now units.now) result }
 {
     cat.classes

@@ -34,7 +34,7 @@ pub fn enter<K: Kind, H: Hasher>(
     units: &mut [K::Unit],
     run: &[K::Unit],
 ) -> Result<Entered, Fault>
-    ensures { EnterDone (sense K.Kind.meets K.Kind.same K.Kind.feed kind.now (of_words H.Hasher.begun H.Hasher.fed H.Hasher.ended))
+    ensures { EnterDone (sense K.meets K.same K.feed kind.now (of_words H.begun H.fed H.ended))
         (state cat.old slots.old units.old) run.now result
         (state cat.new slots.new units.new) }
 {
@@ -80,7 +80,7 @@ pub fn find<K: Kind, H: Hasher>(
     units: &[K::Unit],
     run: &[K::Unit],
 ) -> Result<Option<usize>, Fault>
-    ensures { FindDone (sense K.Kind.meets K.Kind.same K.Kind.feed kind.now (of_words H.Hasher.begun H.Hasher.fed H.Hasher.ended))
+    ensures { FindDone (sense K.meets K.same K.feed kind.now (of_words H.begun H.fed H.ended))
         (state cat.now slots.now units.now) run.now result }
 {
     kind.intake(run)?;

@@ -1,5 +1,5 @@
 // A kind of entry.
-ghost use Rattle.std.specs.Prelude.{◌≡◌, ℕ, ◌≤◌, List, length, Decides, MatchResult};
+ghost use Rattle.std.specs.Prelude.{◌≡◌, ℕ, ◌<◌, ◌≤◌, List, length, Decides, MatchResult};
 ghost use Rattle.catalogue.specs.Kinds.{FirstOf, SoundBy};
 ghost use Rattle.hashing.specs.Words.{of_words};
 
@@ -9,7 +9,7 @@ use hashing::hasher::Hasher;
 /// What a catalogue can have entries of. An entry is a run of units.
 ///
 /// Contract:
-/// - A run is sound where it meets no number of the kind's input list, `meets`. Number 1 is met by what is longer than `LONGEST`.
+/// - A run is sound where it meets no number of the kind's input list, `meets`. Number 1 is met by exactly what is longer than `LONGEST`.
 /// - Over sound runs, sameness is reflexive, symmetric and transitive.
 /// - A run's hash is what the hasher ends with over the run's feed; runs that are the same end in one hash, whatever the
 ///   hasher makes of the words that it is fed.
@@ -19,6 +19,8 @@ pub trait Kind {
 
     // the longest run
     const LONGEST: usize;
+
+    ghost LONGEST: { ℕ };
 
     // a run meets a number of the input list
     ghost meets: { Self → ℕ → List Self.Unit → Type 0 };
@@ -39,7 +41,9 @@ pub trait Kind {
 
     // The hash of a run; of a run that is not sound it may be any.
     fn hash<H: Hasher>(&self, run: &[Self::Unit]) -> u64
-        ensures { SoundBy (meets self.now) run.now → result ≡ of_words H.Hasher.begun H.Hasher.fed H.Hasher.ended (feed self.now (of_words H.Hasher.begun H.Hasher.fed H.Hasher.ended) run.now) };
+        ensures { SoundBy (meets self.now) run.now → result ≡ of_words H.begun H.fed H.ended (feed self.now (of_words H.begun H.fed H.ended) run.now) };
+
+    ghost longest: { (k : Self) (run : List Self.Unit) → (meets k 1 run → LONGEST < length run) × (LONGEST < length run → meets k 1 run) };
 
     ghost reflexive: { (k : Self) (a : List Self.Unit) → SoundBy (meets k) a → same k a a };
 

@@ -9,9 +9,9 @@ use crate::record::Slot;
 // Whether the run that `slot` tells of is the same as `run`; no run is that is not within the units.
 fn same_at<K: Kind>(kind: &K, slot: Slot, units: &[K::Unit], run: &[K::Unit]) -> bool
     ensures { Within slot units.now
-        → SoundBy (K.Kind.meets kind.now) (run_of units.now slot)
-        → SoundBy (K.Kind.meets kind.now) run.now
-        → Decides result (K.Kind.same kind.now (run_of units.now slot) run.now) }
+        → SoundBy (K.meets kind.now) (run_of units.now slot)
+        → SoundBy (K.meets kind.now) run.now
+        → Decides result (K.same kind.now (run_of units.now slot) run.now) }
 {
     let start = slot.start;
     let len = slot.len;
@@ -34,10 +34,10 @@ pub(crate) fn first_same<K: Kind>(
 ) -> Option<usize>
     ensures inside { IfSome result (λ i. i < length slots.now) }
     ensures first { (f : List ℕ → ℕ) (a : Numbers) → a.standing ≡ standing
-        → Intact (sense K.Kind.meets K.Kind.same K.Kind.feed kind.now f) (state_of a slots.now units.now)
-        → SoundBy (K.Kind.meets kind.now) run.now
-        → hash ≡ f (K.Kind.feed kind.now f run.now)
-        → FirstAt (sense K.Kind.meets K.Kind.same K.Kind.feed kind.now f) (state_of a slots.now units.now) run.now result }
+        → Intact (sense K.meets K.same K.feed kind.now f) (state_of a slots.now units.now)
+        → SoundBy (K.meets kind.now) run.now
+        → hash ≡ f (K.feed kind.now f run.now)
+        → FirstAt (sense K.meets K.same K.feed kind.now f) (state_of a slots.now units.now) run.now result }
 {
     let mut i = 0;
     while i < standing && i < slots.len() {

@@ -1,8 +1,9 @@
 // Histories of some hundred calls: each hasher answers as the model does, so both answer alike.
 use crate::memory::Store;
 use crate::model::Model;
+use crate::picks::Picks;
 use crate::scripts::CLEAN;
-use crate::words::{Answer, Picks};
+use crate::words::Answer;
 use hashing::fnv1a::Fnv1a;
 use hashing::hasher::Hasher;
 use hashing::rotating::Rotating;

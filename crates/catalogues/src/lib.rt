@@ -6,13 +6,13 @@
 mod histories;
 #[cfg(test)]
 mod memory;
+pub mod model;
 #[cfg(test)]
-mod model;
+mod picks;
 #[cfg(test)]
 mod rubbish;
 #[cfg(test)]
 mod scripts;
 #[cfg(test)]
 mod tests;
-#[cfg(test)]
-mod words;
+pub mod words;

@@ -1,16 +1,25 @@
 // What a catalogue of names should answer, by the runs that stand alone: a linear search by equality.
+ghost use Rattle.std.specs.Prelude.{◌≡◌, ℕ, ◌<◌, length, min, MatchOption};
+ghost use Rattle.catalogue.specs.Classes.{Begun, ClassOf, FirstSame, entry};
+ghost use Rattle.catalogue.specs.Kinds.{FirstOf, SoundBy};
+ghost use Rattle.catalogue.specs.Model.{total};
+ghost use Rattle.catalogues.specs.Naive.{CallAnswered, CutAnswered, EnterAnswered, FindAnswered, Modest, names, runs_of};
+ghost use Rattle.kinds.specs.Names.{meets_name};
+
 use crate::words::{Answer, Call};
 
 /// The runs that stand, and how many slots and units there are.
 #[derive(Drop)]
-pub(crate) struct Model {
-    pub(crate) runs: Vec<&'static [u8]>,
-    pub(crate) slots: usize,
-    pub(crate) units: usize,
+pub struct Model {
+    pub runs: Vec<&'static [u8]>,
+    pub slots: usize,
+    pub units: usize,
 }
 
 impl Model {
-    pub(crate) fn answer(&mut self, call: Call) -> Answer {
+    pub fn answer(&mut self, call: Call) -> Answer
+        ensures { CallAnswered self.old call result self.new }
+    {
         match call {
             Call::Enter(run) => self.enter(run),
             Call::Find(run) => self.find(run),
@@ -19,10 +28,12 @@ impl Model {
         }
     }
 
-    fn enter(&mut self, run: &'static [u8]) -> Answer {
+    fn enter(&mut self, run: &'static [u8]) -> Answer
+        ensures { Modest self.old → EnterAnswered self.old run.now result self.new }
+    {
         let number = self.runs.len();
-        if !is_name(run) {
-            return no_name(run);
+        if let Some(met) = number_met(run) {
+            return Answer::Refused(met);
         }
         if number >= self.slots {
             return Answer::Refused(20);
@@ -36,9 +47,11 @@ impl Model {
         Answer::Entered(number, self.class(run))
     }
 
-    fn find(&self, run: &'static [u8]) -> Answer {
-        if !is_name(run) {
-            return no_name(run);
+    fn find(&self, run: &'static [u8]) -> Answer
+        ensures { FindAnswered self.now run.now result }
+    {
+        if let Some(met) = number_met(run) {
+            return Answer::Refused(met);
         }
         match self.first(run) {
             Some(number) => Answer::Found(number),
@@ -46,7 +59,9 @@ impl Model {
         }
     }
 
-    fn cut(&mut self, keep: usize) -> Answer {
+    fn cut(&mut self, keep: usize) -> Answer
+        ensures { CutAnswered self.old keep result self.new }
+    {
         if keep > self.runs.len() {
             return Answer::Refused(22);
         }
@@ -55,7 +70,10 @@ impl Model {
     }
 
     // How many classes began before the first entry that is equal.
-    pub(crate) fn class(&self, run: &[u8]) -> usize {
+    pub fn class(&self, run: &[u8]) -> usize
+        ensures entered { let rs = runs_of self.now in (i : ℕ) → i < length rs → entry rs i ≡ run.now → ClassOf names rs i result }
+        ensures absent { FirstSame names (runs_of self.now) run.now None → result ≡ 0 }
+    {
         match self.first(run) {
             Some(first) => self.begun(first),
             None => 0,
@@ -63,7 +81,9 @@ impl Model {
     }
 
     // How many of the first n entries begin a class.
-    pub(crate) fn begun(&self, n: usize) -> usize {
+    pub fn begun(&self, n: usize) -> usize
+        ensures { let rs = runs_of self.now in Begun names rs (min n (length rs)) result }
+    {
         let mut begun = 0usize;
         for (i, run) in self.runs.iter().enumerate() {
             if i < n && self.first(*run) == Some(i) {
@@ -74,7 +94,9 @@ impl Model {
     }
 
     // The first entry that is equal.
-    fn first(&self, run: &[u8]) -> Option<usize> {
+    fn first(&self, run: &[u8]) -> Option<usize>
+        ensures { FirstSame names (runs_of self.now) run.now result }
+    {
         for (i, stored) in self.runs.iter().enumerate() {
             if *stored == run {
                 return Some(i);
@@ -83,7 +105,10 @@ impl Model {
         None
     }
 
-    fn used(&self) -> usize {
+    // How many bytes the runs have, or the highest number.
+    fn used(&self) -> usize
+        ensures { result ≡ min (total (runs_of self.now)) usize.MAX }
+    {
         let mut used = 0usize;
         for run in self.runs.iter() {
             used = used.saturating_add(run.len());
@@ -92,14 +117,15 @@ impl Model {
     }
 }
 
-fn is_name(run: &[u8]) -> bool {
-    1 <= run.len() && run.len() <= 255
-}
-
-fn no_name(run: &[u8]) -> Answer {
+/// The first number of the names' input list that the run meets, or none.
+pub fn number_met(run: &[u8]) -> Option<u8>
+    ensures { MatchOption result (SoundBy meets_name run.now) (λ n. FirstOf meets_name run.now n) }
+{
     if run.len() > 255 {
-        Answer::Refused(1)
-    } else {
-        Answer::Refused(2)
+        return Some(1);
     }
+    if run.len() == 0 {
+        return Some(2);
+    }
+    None
 }

@@ -2,7 +2,8 @@
 // call still returns, and refuses only by the listed numbers.
 use crate::histories::follows;
 use crate::memory::Store;
-use crate::words::{Answer, Picks, word};
+use crate::picks::{Picks, word};
+use crate::words::Answer;
 use catalogue::kind::Kind;
 use catalogue::record::Slot;
 use hashing::fnv1a::Fnv1a;

@@ -1,7 +1,8 @@
 // The limits, cuts, and what is asked of entries.
 use crate::memory::Store;
+use crate::picks::{longest, too_long};
 use crate::scripts::{CLEAN, both, plays};
-use crate::words::{Answer, Call, longest, too_long};
+use crate::words::{Answer, Call};
 use hashing::fnv1a::Fnv1a;
 use hashing::hasher::Hasher;
 use hashing::rotating::Rotating;

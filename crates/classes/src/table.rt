@@ -27,7 +27,7 @@ pub fn class_table<H: Hasher>(
     slots: &mut [Slot],
     units: &mut [u32],
 ) -> Result<ClassedTable<H>, AllocError>
-    ensures { IfOk result (λ t. Classed (of_words H.Hasher.begun H.Hasher.fed H.Hasher.ended) entries.now t.answers.items (state t.cat slots.new units.new) t.classes) }
+    ensures { IfOk result (λ t. Classed (of_words H.begun H.fed H.ended) entries.now t.answers.items (state t.cat slots.new units.new) t.classes) }
 {
     let mut cat = Catalogue::new();
     let answers = enter_rules(heap, &mut cat, entries, slots, units)?;
@@ -48,7 +48,7 @@ fn enter_rules<H: Hasher>(
     units: &mut [u32],
 ) -> Result<Vec<Result<Entered, Fault>>, AllocError>
     requires { numbers_of cat.old ≡ nothing }
-    ensures { IfOk result (λ answers. EntersAll (of_words H.Hasher.begun H.Hasher.fed H.Hasher.ended) entries.now answers.items (state cat.new slots.new units.new)) }
+    ensures { IfOk result (λ answers. EntersAll (of_words H.begun H.fed H.ended) entries.now answers.items (state cat.new slots.new units.new)) }
 {
     let mut answers = Vec::new(heap);
     for entry in entries {

@@ -15,7 +15,7 @@ use sameness::reducing::reduce_rule;
 // The hash of the root. The operands of each Eq and Ne are hashed before it, the lower nodes first.
 fn hash_root<'a, H: Hasher>(words: &'a [u32], kinds: &'a [Kind]) -> u64
     requires { AllReduced words.now kinds.now }
-    ensures { result ≡ hash_of (of_words H.Hasher.begun H.Hasher.fed H.Hasher.ended) (tree_of words.now) }
+    ensures { result ≡ hash_of (of_words H.begun H.fed H.ended) (tree_of words.now) }
 {
     let mut smaller = [0u64; 2048];
     let mut larger = [0u64; 2048];
@@ -46,7 +46,7 @@ fn hash_root<'a, H: Hasher>(words: &'a [u32], kinds: &'a [Kind]) -> u64
 /// The hash of a rule by a hasher, or the first ground of 1 to 6 on which the words are refused. Rules that are the
 /// same have one hash.
 pub fn hash_rule<H: Hasher>(words: &[u32]) -> Result<u64, Fault>
-    ensures { Hashed (of_words H.Hasher.begun H.Hasher.fed H.Hasher.ended) words.now result }
+    ensures { Hashed (of_words H.begun H.fed H.ended) words.now result }
 {
     let rule = reduce_rule(words)?;
     Ok(hash_root::<H>(words, &rule.kinds[0..rule.count]))

@@ -21,7 +21,7 @@ pub(crate) struct Noted<'a> {
 
 // Feeds the words of a node that come before its children; the two hashes are those of the operands of an Eq or a Ne.
 fn feed_node<H: Hasher>(hasher: &mut H, kind: Kind, smaller: u64, larger: u64)
-    ensures { hasher.new ≡ fed_all H.Hasher.fed hasher.old (head_of kind smaller larger) }
+    ensures { hasher.new ≡ fed_all H.fed hasher.old (head_of kind smaller larger) }
 {
     hasher.feed(u64::from(kind.code));
     hasher.feed(u64::from(fed_v(kind)));
@@ -36,7 +36,7 @@ fn feed_node<H: Hasher>(hasher: &mut H, kind: Kind, smaller: u64, larger: u64)
 // The same of node `i`.
 fn feed_at<H: Hasher>(hasher: &mut H, rule: Noted, i: usize)
     requires { (i < length rule.kinds.now) × ((i < length rule.smaller.now) × (i < length rule.larger.now)) }
-    ensures { hasher.new ≡ fed_all H.Hasher.fed hasher.old (head_of (kind_in rule.entry.kinds.now i) (slice_index rule.entry.smaller.now i) (slice_index rule.entry.larger.now i)) }
+    ensures { hasher.new ≡ fed_all H.fed hasher.old (head_of (kind_in rule.entry.kinds.now i) (slice_index rule.entry.smaller.now i) (slice_index rule.entry.larger.now i)) }
 {
     feed_node::<H>(hasher, rule.kinds[i], rule.smaller[i], rule.larger[i]);
 }
@@ -54,8 +54,8 @@ fn next_child(words: &[u32], kind: Kind, q: usize) -> Option<usize>
 
 // The hash of node `top`. The stack has a node in each frame, and how many of its children are done.
 pub(crate) fn hash_node<H: Hasher>(rule: Noted, top: usize) -> u64
-    requires { Walkable (of_words H.Hasher.begun H.Hasher.fed H.Hasher.ended) rule.words.now rule.kinds.now rule.smaller.now rule.larger.now top }
-    ensures { result ≡ node_hash (of_words H.Hasher.begun H.Hasher.fed H.Hasher.ended) rule.entry.words.now top }
+    requires { Walkable (of_words H.begun H.fed H.ended) rule.words.now rule.kinds.now rule.smaller.now rule.larger.now top }
+    ensures { result ≡ node_hash (of_words H.begun H.fed H.ended) rule.entry.words.now top }
 {
     let mut hasher = H::fresh();
     let mut nodes = [0u16; 2048];

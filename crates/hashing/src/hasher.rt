@@ -32,7 +32,7 @@ pub trait Hasher: Sized + Drop {
 
 /// The hash of a run of words by a fresh hasher, the first word fed first.
 pub fn hash_words<H: Hasher>(words: &[u64]) -> u64
-    ensures { result ≡ of_words H.Hasher.begun H.Hasher.fed H.Hasher.ended words.now }
+    ensures { result ≡ of_words H.begun H.fed H.ended words.now }
 {
     let mut hasher = H::fresh();
     for word in words {

@@ -1,5 +1,6 @@
 // Names as a kind of entry.
 ghost use Rattle.std.specs.Prelude.{◌≡◌, ℕ, List, ◌∷◌, length};
+ghost use Rattle.kinds.specs.Longest.{name-longest};
 ghost use Rattle.kinds.specs.Names.{meets_name};
 ghost use Rattle.std.proofs.Common.{rules};
 
@@ -16,11 +17,15 @@ impl Kind for Names {
 
     const LONGEST: usize = 255;
 
+    ghost LONGEST = { 255 };
+
     ghost meets = { λ k n bytes. meets_name n bytes };
 
     ghost same = { λ k a b. a ≡ b };
 
     ghost feed = { λ k f bytes. length bytes ∷ bytes };
+
+    ghost longest = { λ k bytes. name-longest bytes };
 
     ghost reflexive = { Prim.search rules };
 

@@ -7,6 +7,7 @@ ghost use Rattle.std.proofs.Common.{sym, ◌∙◌};
 ghost use Rattle.rule.specs.Trees.{tree_of};
 ghost use Rattle.sameness.proofs.Theorems;
 ghost use Rattle.kinds.specs.Cleaned.{clean-rule};
+ghost use Rattle.kinds.specs.Longest.{rule-longest};
 ghost use Rattle.feed.proofs.Steps.{hash-rule};
 ghost use Rattle.feed.proofs.Theorems.{hash-law};
 
@@ -29,11 +30,15 @@ impl Kind for Rules {
 
     const LONGEST: usize = MOST_WORDS;
 
+    ghost LONGEST = { 8192 };
+
     ghost meets = { λ k n words. meets_rule n words };
 
     ghost same = { λ k a b. same_rule a b };
 
     ghost feed = { λ k f words. rule_feed f words };
+
+    ghost longest = { λ k words. rule-longest words };
 
     ghost reflexive = { λ k a sound. Theorems.reflexive (tree_of a) (clean-rule a sound) };
 
@@ -44,9 +49,6 @@ impl Kind for Rules {
     ghost one_hash = { λ k f a b _ _ s. sym (hash-rule f (tree_of a)) ∙ hash-law f (tree_of a) (tree_of b) s ∙ hash-rule f (tree_of b) };
 
     fn intake(&self, run: &[u32]) -> Result<(), InputFault> {
-        if run.len() > Rules::LONGEST {
-            return Err(InputFault { number: 1 });
-        }
         match intake_entry(run) {
             Ok(_) => Ok(()),
             Err(fault) => Err(InputFault {
@@ -74,7 +76,7 @@ impl Kind for Rules {
 /// How many classes the standing rules have.
 pub fn class_count<H: Hasher>(cat: &Catalogue<H>, slots: &[Slot], units: &[u32]) -> usize
     ensures count { result ≡ cat.now.classes }
-    ensures promise { RulesPromised (of_words H.Hasher.begun H.Hasher.fed H.Hasher.ended) (state cat.now slots.now units.now) result }
+    ensures promise { RulesPromised (of_words H.begun H.fed H.ended) (state cat.now slots.now units.now) result }
 {
     asking::class_count::<Rules, H>(cat, &Rules, slots, units)
 }

@@ -23,7 +23,7 @@ pub fn perform<K: Kind, H: Hasher>(
     units: &mut [K::Unit],
     call: &Call<K::Unit>,
 ) -> Result<Answer<K::Unit>, AllocError>
-    ensures { IfOk result (λ answer. Performed (sense K.Kind.meets K.Kind.same K.Kind.feed kind.now (of_words H.Hasher.begun H.Hasher.fed H.Hasher.ended))
+    ensures { IfOk result (λ answer. Performed (sense K.meets K.same K.feed kind.now (of_words H.begun H.fed H.ended))
         (state cat.old slots.old units.old) call.now answer
         (state cat.new slots.new units.new)) }
 {

@@ -122,7 +122,7 @@ mutual
       )
 
 -- what the first part uses is not declared in the second
-undeclared : (d d' n : ℕ) → (0 < d' → d + n ≡ 0) → 0 < n → d' ≡ 0
+pub undeclared : (d d' n : ℕ) → (0 < d' → d + n ≡ 0) → 0 < n → d' ≡ 0
 undeclared d d' n h p = ⊎_elim (λ g. absurd (omega (arith, h g))) (λ g. omega arith) (cases_lt 0 d')
 
 at_most_one : (d d' n : ℕ) → (0 < d' → d + n ≡ 0) → d ≤ 1 → d' ≤ 1 → d + d' ≤ 1

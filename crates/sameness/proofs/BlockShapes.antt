@@ -21,6 +21,7 @@ return-kids ws p (suc (suc n)) h = refl
 
 ---- shapes
 
+-- only a block expression is not kept
 pub shape-code : (c : ℕ) (ts : Forest) → (c ≡ 15 → ⊥) → shape c ts ≡ kept
 unfolding shape
 shape-code c nil h = refl

@@ -8,10 +8,6 @@ use Rattle.sameness.specs.Sameness.{bare_v}
 use Rattle.sameness.specs.Deciding.{Table, Outcome, fails, holds, and_then, or_else, given, direct_test, reversed_test, at_roles, exchanging, decide, decide_all, matched, fresh, add}
 use Rattle.sameness.proofs.Steps.{decide-node, at_roles-plain}
 
-pub then-holds : (o : Outcome) → and_then o (λ Q. holds Q) ≡ o
-then-holds fails = refl
-then-holds (holds P) = refl
-
 pub or-fails : (o : Outcome) → or_else o fails ≡ o
 or-fails fails = refl
 or-fails (holds P) = refl

@@ -4,6 +4,7 @@ use Rattle.std.proofs.lemmas.Bool.{cases_lt, eq-eqb}
 use Rattle.rule.specs.Trees.{Tree, Forest, node, nil, cons}
 use Rattle.rule.specs.Scopes.{Role, declares, uses, plain, role, declared, used, decls, decls_all, uses_of, uses_all, compares, OwnUses, Closed, Enclosed, EnclosedAll, SoundScopes}
 use Rattle.rule.proofs.Walked.{Apart, ApartAll, sound-apart}
+use Rattle.rule.proofs.Walked.{undeclared}
 use Rattle.sameness.proofs.InPlay.{outside, reach, reach_all, grown, UseSound, Scoped, ScopedAll, Sound}
 
 ---- what does not reach out of a part is used, of all its uses U, in that part only
@@ -65,9 +66,6 @@ use-at D U vis b a fork ts (uses y) k e d u h =
 use-at D U vis b a fork ts plain k e d u h = tt
 
 -- what the first part uses is not declared in the second
-undeclared : (d d' n : ℕ) → (0 < d' → d + n ≡ 0) → 0 < n → d' ≡ 0
-undeclared d d' n h p = ⊎_elim (λ g. absurd (omega (arith, h g))) (λ g. omega arith) (cases_lt 0 d')
-
 module _ (D U : ℕ → ℕ) where
   mutual
     unfolding decls decls_all uses_of uses_all Apart ApartAll Enclosed EnclosedAll

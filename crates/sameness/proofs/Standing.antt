@@ -1,21 +1,14 @@
 -- What a node stands for: itself, the return inside it, or an empty tuple. Its reduction is that node over its own
 -- children reduced.
 use Rattle.std.proofs.Common.{◌≡◌, ℕ, refl, ap, ◌∙◌}
-use Rattle.std.proofs.lemmas.Bool.{ne_eqb}
 use Rattle.rule.specs.Trees.{Tree, Forest, node, nil, cons}
 use Rattle.sameness.specs.Reduction.{children_of, first_of, Shape, tail, statement, kept, shape, shaped, reduce, reduce_all}
+use Rattle.sameness.proofs.BlockShapes.{shape-code}
 use Rattle.sameness.proofs.Shapes.{View, is_empty, is_tail, is_96, is_97, is_kept, view}
 use Rattle.sameness.proofs.Steps.{reduce-kept}
 
--- only a block expression is not kept
-pub shape-other : (c : ℕ) (ts : Forest) → (c ≡ 15 → ⊥) → shape c ts ≡ kept
-unfolding shape
-shape-other c nil n = refl
-shape-other c (cons t nil) n = rw (ne_eqb c 15 n)
-shape-other c (cons t (cons t' ts)) n = refl
-
 pub reduce-other : (c v w : ℕ) (ts : Forest) → (c ≡ 15 → ⊥) → reduce (node c v w ts) ≡ node c v w (reduce_all ts)
-reduce-other c v w ts n = reduce-kept c v w ts (shape-other c ts n)
+reduce-other c v w ts n = reduce-kept c v w ts (shape-code c ts n)
 
 -- a return is kept
 pub reduce-return : (v w : ℕ) (ts : Forest) → reduce (node 31 v w ts) ≡ node 31 v w (reduce_all ts)

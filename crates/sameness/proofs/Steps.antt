@@ -30,18 +30,18 @@ pub decide_all-cons : (t : Tree) (ts : Forest) (u : Tree) (us : Forest) (P : Tab
 unfolding decide_all decide
 decide_all-cons t ts u us P = refl
 
+pub then-holds : (o : Outcome) → and_then o (λ Q. holds Q) ≡ o
+then-holds fails = refl
+then-holds (holds P) = refl
+
 -- two children on each side
 pub decide_all-pair : (a b a' b' : Tree) (P : Table) → decide_all (pair a b) (pair a' b') P ≡ and_then (decide a a' P) (decide b b')
 unfolding decide_all decide
 decide_all-pair a b a' b' P = go (decide a a' P)
   where
-    last : (o : Outcome) → and_then o (λ Q. holds Q) ≡ o
-    last fails = refl
-    last (holds Q) = refl
-
     go : (o : Outcome) → and_then o (decide_all (cons b nil) (cons b' nil)) ≡ and_then o (decide b b')
     go fails = refl
-    go (holds Q) = last (decide b b' Q)
+    go (holds Q) = then-holds (decide b b' Q)
 
 pub exchanging-pair : (k : Forest → Table → Outcome) (a b : Tree) (P : Table) → exchanging k (pair a b) P ≡ k (pair b a) P
 unfolding exchanging

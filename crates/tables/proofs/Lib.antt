@@ -7,3 +7,4 @@ pub mod Faults
 pub mod Rows
 pub mod Reading
 pub mod Sole
+pub mod Taken

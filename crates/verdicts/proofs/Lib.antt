@@ -1,4 +1,3 @@
-pub mod CountedOutcomes
 pub mod Counting
 pub mod Indexing
 pub mod Judging

@@ -1,6 +1,6 @@
 -- The lines of a survey, one rule more. Assumes nothing.
 use Rattle.std.proofs.Common.{◌≡◌, ℕ, ◌+◌, ◌<◌, true, false, List, [], ◌∷◌, ◌++◌, length, get_or, take, is_some, Some, None, Option, sym, refl, ap, ◌∙◌, subst, inl, inr, ⊎_elim, true≢false, append_assoc, Bor}
-use Rattle.std.proofs.lemmas.List.{take_more}
+use Rattle.tables.proofs.Taken.{take-item}
 use Rattle.tables.specs.declared.line.Entry.{Entry}
 use Rattle.tables.specs.Rules.{name_of}
 use Rattle.verdicts.specs.declared.survey.Line.{Line}
@@ -31,25 +31,21 @@ new-more old (f ∷ es) ls e l h lacks line =
     (λ k. inr (k.0, (k.1.0, k.1.1 ++ (l ∷ []), ap (λ m. m ++ (l ∷ [])) k.1.2, k.1.3, new-more old es k.1.1 e l k.1.4 lacks line)))
     h
 
--- the first rules of a table, with the one at i
-front : (es : List Entry) (i : ℕ) (e : Entry) → i < length es → e ≡ get_or es i e → take (i + 1) es ≡ take i es ++ (e ∷ [])
-front es i e lt at = take_more es i e lt ∙ ap (λ x. take i es ++ (x ∷ [])) (sym at)
-
 pub old-step : (new es : List Entry) (i : ℕ) (ls ms : List Line) (e : Entry) (l : Line) → i < length es → e ≡ get_or es i e → OldLines new (take i es) ls → OldLine new e l → ms ≡ ls ++ (l ∷ []) → OldLines new (take (i + 1) es) ms
 old-step new es i ls ms e l lt at h line is =
-    subst (λ xs. OldLines new xs ms) (sym (front es i e lt at)) (subst (OldLines new (take i es ++ (e ∷ []))) (sym is) (old-more new (take i es) ls e l h line))
+    subst (λ xs. OldLines new xs ms) (sym (take-item es i e lt at)) (subst (OldLines new (take i es ++ (e ∷ []))) (sym is) (old-more new (take i es) ls e l h line))
 
 -- a rule that is found in the old table has no line
 pub found-step : (old es : List Entry) (i : ℕ) (ls ms : List Line) (e : Entry) (r : Option (Bor Entry)) → i < length es → e ≡ get_or es i e → WithNew old (take i es) ls ms → FoundAs old (name_of e) r → is_some r ≡ true → WithNew old (take (i + 1) es) ls ms
 found-step old es i ls ms e None lt at h found some = absurd (true≢false (sym some))
 found-step old es i ls ms e (Some o) lt at h found some =
-    (h.0, h.1, subst (λ xs. NewLines old xs h.0) (sym (front es i e lt at)) (new-known old (take i es) h.0 e h.2 o.now found))
+    (h.0, h.1, subst (λ xs. NewLines old xs h.0) (sym (take-item es i e lt at)) (new-known old (take i es) h.0 e h.2 o.now found))
 
 -- and one that is not has one
 pub new-step : (old es : List Entry) (i : ℕ) (ls ms ns : List Line) (e : Entry) (l : Line) (r : Option (Bor Entry)) → i < length es → e ≡ get_or es i e → WithNew old (take i es) ls ms → FoundAs old (name_of e) r → is_some r ≡ false → NewLine e l → ns ≡ ms ++ (l ∷ []) → WithNew old (take (i + 1) es) ls ns
 new-step old es i ls ms ns e l None lt at h found none line is = (
   h.0 ++ (l ∷ []),
   is ∙ ap (λ m. m ++ (l ∷ [])) h.1 ∙ append_assoc ls h.0 (l ∷ []),
-  subst (λ xs. NewLines old xs (h.0 ++ (l ∷ []))) (sym (front es i e lt at)) (new-more old (take i es) h.0 e l h.2 found line),
+  subst (λ xs. NewLines old xs (h.0 ++ (l ∷ []))) (sym (take-item es i e lt at)) (new-more old (take i es) h.0 e l h.2 found line),
 )
 new-step old es i ls ms ns e l (Some o) lt at h found none line is = absurd (true≢false none)

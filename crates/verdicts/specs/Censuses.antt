@@ -1,16 +1,15 @@
 -- How many rules have each outcome. Assumes nothing.
-use Rattle.std.specs.Prelude.{◌≡◌, ℕ, ◌+◌, cond, List, [], ◌∷◌, length}
+use Rattle.std.specs.Prelude.{◌≡◌, ◌+◌, List, [], ◌∷◌, length, map}
 use Rattle.verdicts.specs.declared.census.Census.{Census}
 use Rattle.verdicts.specs.declared.outcome.Kind.{Kind}
 use Rattle.verdicts.specs.declared.outcome.Outcome.{Outcome}
 use Rattle.verdicts.specs.declared.outcome.Outcome.TheVariants.{Keep, Convert, Gone, Added, Refused}
 use Rattle.verdicts.specs.declared.survey.Line.{Line}
-use Rattle.verdicts.specs.Outcomes.{kind_of, is_kind}
+use Rattle.verdicts.specs.Outcomes.{counted}
 
--- how many of the lines have an outcome of a kind
-abbrev pub counted_lines : Kind → List Line → ℕ
-counted_lines k [] = 0
-counted_lines k (l ∷ ls) = cond (is_kind (kind_of l.outcome) k) 1 0 + counted_lines k ls
+-- the outcomes of the lines, in their order
+abbrev pub outcomes_of : List Line → List Outcome
+outcomes_of ls = map (λ l. l.outcome) ls
 
 abbrev pub Stands : Outcome → Type 0
 Stands Keep = Unit {0}
@@ -19,18 +18,18 @@ Stands Gone = Unit {0}
 Stands Added = Unit {0}
 Stands (Refused side fault) = ⊥
 
--- no line says that a rule is refused
-abbrev pub NoneRefused : List Line → Type 0
+-- no rule is refused
+abbrev pub NoneRefused : List Outcome → Type 0
 NoneRefused [] = Unit {0}
-NoneRefused (l ∷ ls) = Stands l.outcome × NoneRefused ls
+NoneRefused (o ∷ os) = Stands o × NoneRefused os
 
--- the counts of the lines; the count of the refused is 0, which is called certified, exactly when no line says that a rule is refused
-pub record CensusOf (ls : List Line) (c : Census) : Type 0 where
-  pub keep : c.keep ≡ counted_lines Kind.Keep ls
-  pub convert : c.convert ≡ counted_lines Kind.Convert ls
-  pub gone : c.gone ≡ counted_lines Kind.Gone ls
-  pub added : c.added ≡ counted_lines Kind.Added ls
-  pub refused : c.refused ≡ counted_lines Kind.Refused ls
-  pub whole : c.keep + c.convert + c.gone + c.added + c.refused ≡ length ls
-  pub certified : c.refused ≡ 0 → NoneRefused ls
-  pub certifies : NoneRefused ls → c.refused ≡ 0
+-- the counts of the outcomes; the count of the refused is 0, which is called certified, exactly when no rule is refused
+pub record CensusOf (os : List Outcome) (c : Census) : Type 0 where
+  pub keep : c.keep ≡ counted Kind.Keep os
+  pub convert : c.convert ≡ counted Kind.Convert os
+  pub gone : c.gone ≡ counted Kind.Gone os
+  pub added : c.added ≡ counted Kind.Added os
+  pub refused : c.refused ≡ counted Kind.Refused os
+  pub whole : c.keep + c.convert + c.gone + c.added + c.refused ≡ length os
+  pub certified : c.refused ≡ 0 → NoneRefused os
+  pub certifies : NoneRefused os → c.refused ≡ 0

@@ -4,7 +4,7 @@ use Rattle.rule.specs.Faults.{number_of}
 use Rattle.rule.specs.Intake as intake
 use Rattle.rule.specs.Trees.{tree_of}
 use Rattle.sameness.specs.Sameness.{Same}
-use Rattle.sameness.specs.Comparing.{Sound, Unsound}
+use Rattle.sameness.specs.Comparing.{Compared, Sound}
 use Rattle.sameness.specs.declared.compare.CompareFault.{CompareFault}
 use Rattle.sameness.specs.declared.compare.CompareFault.TheVariants.{First, Second, PairTable}
 use Rattle.verdicts.specs.declared.outcome.Kind.{Kind}
@@ -51,22 +51,20 @@ SoleAs side ws Gone = (side ≡ Old) × Sound ws
 SoleAs side ws Added = (side ≡ New) × Sound ws
 SoleAs side ws (Refused s f) = (s ≡ side) × intake.Refused ws f × (number_of f ≤ 6)
 
--- what is said of a rule that is in both tables: it is kept exactly when both are rules and they are the same; ps is the pair
--- table, and nothing is said where it is too short
-abbrev pub JudgedAs : List ℕ → List ℕ → List ℕ → Option Outcome → Type 0
-JudgedAs ws us ps (Some Keep) = Sound ws × Sound us × Same (tree_of ws) (tree_of us)
-JudgedAs ws us ps (Some Convert) = Sound ws × Sound us × (Same (tree_of ws) (tree_of us) → ⊥)
-JudgedAs ws us ps (Some Gone) = ⊥
-JudgedAs ws us ps (Some Added) = ⊥
-JudgedAs ws us ps (Some (Refused Old f)) = intake.Refused ws f × (number_of f ≤ 6)
-JudgedAs ws us ps (Some (Refused New f)) = Sound ws × intake.Refused us f × (number_of f ≤ 6)
-JudgedAs ws us ps None = length ps < 2048
-
 -- the outcome of a rule that is in both tables: it is kept exactly when both are rules and they are the same
 abbrev pub OutcomeAs : List ℕ → List ℕ → Outcome → Type 0
 OutcomeAs ws us Keep = Sound ws × Sound us × Same (tree_of ws) (tree_of us)
 OutcomeAs ws us Convert = Sound ws × Sound us × (Same (tree_of ws) (tree_of us) → ⊥)
 OutcomeAs ws us Gone = ⊥
 OutcomeAs ws us Added = ⊥
-OutcomeAs ws us (Refused Old f) = Unsound ws f
-OutcomeAs ws us (Refused New f) = Sound ws × Unsound us f
+OutcomeAs ws us (Refused Old f) = intake.Refused ws f × (number_of f ≤ 6)
+OutcomeAs ws us (Refused New f) = Sound ws × intake.Refused us f × (number_of f ≤ 6)
+
+-- the same over the pair table ps, where nothing is said if it is too short
+abbrev pub JudgedAs : List ℕ → List ℕ → List ℕ → Option Outcome → Type 0
+JudgedAs ws us ps (Some o) = OutcomeAs ws us o
+JudgedAs ws us ps None = length ps < 2048
+
+-- the outcome is that of comparing the two, by which the pair table ps is qs then
+abbrev pub OutcomeBy : List ℕ → List ℕ → List ℕ → List ℕ → Option Outcome → Type 0
+OutcomeBy ws us ps qs o = (r : Result Bool CompareFault) × (o ≡ answered r) × Compared ws us ps qs r

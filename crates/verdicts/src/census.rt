@@ -1,34 +1,59 @@
 // How many rules have each outcome.
-ghost use Rattle.std.specs.Prelude.{◌≡◌, ◌+◌, length, ◌==◌};
-ghost use Rattle.verdicts.specs.Censuses.{CensusOf, counted_lines};
+ghost use Rattle.std.specs.Prelude.{◌≡◌, ◌+◌, length, map, ◌==◌};
+ghost use Rattle.verdicts.specs.Censuses.{CensusOf, outcomes_of};
 ghost use Rattle.verdicts.specs.Outcomes.{counted};
+ghost use Rattle.verdicts.specs.declared.outcome.Outcome.{Outcome};
 
 use crate::outcome::{Kind, Outcome};
 use crate::survey::Line;
 use std::fmt;
 
-fn count(outcomes: &[Outcome], kind: Kind) -> usize
-    ensures { result ≡ counted kind outcomes.now }
+// What has an outcome: an outcome itself, and a line of a survey.
+trait HasOutcome {
+    ghost outcome: { Self → Outcome };
+
+    fn outcome(&self) -> Outcome
+        ensures { result ≡ outcome self.now };
+}
+
+impl HasOutcome for Outcome {
+    ghost outcome = { λ o. o };
+
+    fn outcome(&self) -> Outcome {
+        *self
+    }
+}
+
+impl HasOutcome for Line<'_> {
+    ghost outcome = { λ l. l.outcome };
+
+    fn outcome(&self) -> Outcome {
+        self.outcome
+    }
+}
+
+fn count<T: HasOutcome>(items: &[T], kind: Kind) -> usize
+    ensures { result ≡ counted kind (map T.outcome items.now) }
 {
     let mut n = 0;
-    for outcome in outcomes {
-        if outcome.kind().is(kind) {
+    for item in items {
+        if item.outcome().kind().is(kind) {
             n += 1;
         }
     }
     n
 }
 
-fn count_lines(lines: &[Line<'_>], kind: Kind) -> usize
-    ensures { result ≡ counted_lines kind lines.now }
+fn census_of<T: HasOutcome>(items: &[T]) -> Census
+    ensures { CensusOf (map T.outcome items.now) result }
 {
-    let mut n = 0;
-    for line in lines {
-        if line.outcome.kind().is(kind) {
-            n += 1;
-        }
+    Census {
+        keep: count(items, Kind::Keep),
+        convert: count(items, Kind::Convert),
+        gone: count(items, Kind::Gone),
+        added: count(items, Kind::Added),
+        refused: count(items, Kind::Refused),
     }
-    n
 }
 
 #[derive(Clone, Copy)]
@@ -49,25 +74,13 @@ impl Census {
         ensures refused { result.refused ≡ counted Kind.Refused outcomes.now }
         ensures whole { result.keep + result.convert + result.gone + result.added + result.refused ≡ length outcomes.now }
     {
-        Census {
-            keep: count(outcomes, Kind::Keep),
-            convert: count(outcomes, Kind::Convert),
-            gone: count(outcomes, Kind::Gone),
-            added: count(outcomes, Kind::Added),
-            refused: count(outcomes, Kind::Refused),
-        }
+        census_of(outcomes)
     }
 
     pub fn of_lines(lines: &[Line<'_>]) -> Census
-        ensures { CensusOf lines.now result }
+        ensures { CensusOf (outcomes_of lines.now) result }
     {
-        Census {
-            keep: count_lines(lines, Kind::Keep),
-            convert: count_lines(lines, Kind::Convert),
-            gone: count_lines(lines, Kind::Gone),
-            added: count_lines(lines, Kind::Added),
-            refused: count_lines(lines, Kind::Refused),
-        }
+        census_of(lines)
     }
 
     // Nothing is refused.

@@ -1,6 +1,6 @@
 // What becomes of a rule when a table is changed.
 ghost use Rattle.std.specs.Prelude.{◌≡◌};
-ghost use Rattle.verdicts.specs.Outcomes.{JudgedAs, OutcomeAs, SoleAs, answered, is_kind, kind_of};
+ghost use Rattle.verdicts.specs.Outcomes.{JudgedAs, OutcomeAs, OutcomeBy, SoleAs, answered, is_kind, kind_of};
 
 use crate::answer::{Answer, compare_rules};
 use rule::fault::Fault;
@@ -101,7 +101,8 @@ impl Outcome {
 
 // What becomes of a rule that is in both tables: it is kept exactly when the two are rules and the same.
 pub fn outcome_of(old: &[u32], new: &[u32], pairs: &mut [u32]) -> Option<Outcome>
-    ensures { JudgedAs old.now new.now pairs.old result }
+    ensures judged { JudgedAs old.now new.now pairs.old result }
+    ensures table { OutcomeBy old.now new.now pairs.old pairs.new result }
 {
     Outcome::answered(compare(old, new, pairs))
 }

@@ -1,7 +1,7 @@
 // What becomes of each rule where one table takes the place of another.
 ghost use Rattle.std.specs.Prelude.{IfOk};
 ghost use Rattle.verdicts.specs.Names.{Indexes};
-ghost use Rattle.verdicts.specs.Censuses.{CensusOf};
+ghost use Rattle.verdicts.specs.Censuses.{CensusOf, outcomes_of};
 ghost use Rattle.verdicts.specs.Surveys.{NewLine, OldLine, OldLines, SurveyOf, WithNew};
 
 use crate::census::Census;
@@ -35,7 +35,7 @@ pub struct Survey<'a> {
 impl<'a> Survey<'a> {
     // A line for each rule of the old table, then one for each rule of the new table whose name the old one lacks.
     pub fn of(heap: Global, old: &'a [Entry], new: &'a [Entry]) -> Result<Survey<'a>, AllocError>
-        ensures { IfOk result (λ s. SurveyOf old.now new.now s.lines.items × CensusOf s.lines.items s.census) }
+        ensures { IfOk result (λ s. SurveyOf old.now new.now s.lines.items × CensusOf (outcomes_of s.lines.items) s.census) }
     {
         let lines = old_lines(heap, old, new)?;
         let lines = with_new_lines(heap, lines, old, new)?;

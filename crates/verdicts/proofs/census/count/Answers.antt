@@ -1,22 +1,23 @@
-use Rattle.std.proofs.Common.{◌≡◌, drop, sym, ap, ◌∙◌, arith}
+use Rattle.std.proofs.Common.{◌≡◌, drop, map, sym, ap, ◌∙◌, arith}
 use Rattle.std.proofs.lemmas.List.{at_drop_all}
-use Rattle.verdicts.specs.Outcomes.{counted, is_kind}
-use Rattle.verdicts.proofs.CountedOutcomes.{one_more, no_more}
+use Rattle.verdicts.specs.Outcomes.{counted, is_kind, kind_of}
+use Rattle.verdicts.proofs.Counting.{one_more, no_more}
 use Rattle.verdicts.proofs.census.count.Goals as goal
 use Rattle.verdicts.proofs.census.count.Goals.{then-is, else-is}
 
-pub loop-outcome-preserved : goal.loop-outcome-preserved
-loop-outcome-preserved c =
-    let os = c.args.outcomes.now in
+pub loop-item-preserved : goal.loop-item-preserved
+loop-item-preserved g c =
+    let f = g.T.HasOutcome.outcome in
+    let xs = c.args.items.now in
     let k = c.args.kind in
-    let i = c.loop-outcome.outcome-index in
-    let told = sym (c.is.ensures ∙ ap (λ o. is_kind o k) c.kind.ensures) in
+    let i = c.loop-item.item-index in
+    let told = ap (λ x. is_kind (kind_of (f x)) k) (sym c.item-item.is) ∙ sym (c.is.ensures ∙ ap (λ o. is_kind o k) (c.kind.ensures ∙ ap kind_of c.outcome.ensures)) in
     elim c.if-is.branch [
-      | then-is w ↦ (omega (arith, w.n-is, c.loop-outcome.invariant.0, one_more k os i c.loop-outcome-test.true (told ∙ w.if-is.true)), omega (arith, w.n-is, c.loop-outcome.invariant.1))
-      | else-is w ↦ (omega (arith, w.n-is, c.loop-outcome.invariant.0, no_more k os i c.loop-outcome-test.true (told ∙ w.if-is.false)), omega (arith, w.n-is, c.loop-outcome.invariant.1))
+      | then-is w ↦ (omega (arith, w.n-is, c.loop-item.invariant.0, one_more f k xs i _ c.loop-item-test.true (told ∙ w.if-is.true)), omega (arith, w.n-is, c.loop-item.invariant.1))
+      | else-is w ↦ (omega (arith, w.n-is, c.loop-item.invariant.0, no_more f k xs i _ c.loop-item-test.true (told ∙ w.if-is.false)), omega (arith, w.n-is, c.loop-item.invariant.1))
     ]
 
 pub returns : goal.returns
-returns c =
-    let none : counted c.args.kind (drop c.loop-outcome.outcome-index c.args.outcomes.now) ≡ 0 = at_drop_all (counted c.args.kind) c.args.outcomes.now c.loop-outcome.outcome-index c.loop-outcome-test.false in
-    omega (arith, none, c.loop-outcome.invariant.0)
+returns g c =
+    let none : counted c.args.kind (map g.T.HasOutcome.outcome (drop c.loop-item.item-index c.args.items.now)) ≡ 0 = at_drop_all (λ xs. counted c.args.kind (map g.T.HasOutcome.outcome xs)) c.args.items.now c.loop-item.item-index c.loop-item-test.false in
+    omega (arith, none, c.loop-item.invariant.0)

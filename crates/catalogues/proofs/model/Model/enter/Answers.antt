@@ -1,0 +1,54 @@
+use Rattle.std.proofs.Common.{true, false, not, sym, rules, ◌≡◌, ℕ, List, [], ◌∷◌, ◌++◌, Bor, length, map, refl, ap, ◌∙◌, arith, length-append}
+use Rattle.std.proofs.lemmas.List.{map-append}
+use Rattle.std.specs.Result.{is_ok, is_err}
+use lib.Seq.{get_or-append_seam}
+use Rattle.catalogue.specs.declared.fault.Fault.TheVariants.{Input}
+use Rattle.catalogue.specs.Classes.{entry}
+use Rattle.catalogues.specs.Naive.{runs_of}
+use Rattle.catalogues.proofs.Runs.{length-row}
+use Rattle.catalogues.proofs.model.Model.enter.Goals as goal
+
+pub returns-in-Some : goal.returns-in-Some
+returns-in-Some c _ = (Input (record { number = c.in-Some.met }), refl, ((c.in-Some.ensures, refl), (refl, refl)))
+
+pub returns-then-is_err : goal.returns-then-is_err
+returns-then-is_err c modest =
+    let f : Bor (List ℕ) → List ℕ = λ r. r.now in
+    let old = c.args.self.now.runs.items in
+    let n = length-row old in
+    let failed : is_err c.push.result ≡ true = sym c.is_err.ensures.value ∙ c.if-is_err.true in
+    let not_ok : is_ok c.push.result ≡ false = c.is_err.ensures.negation ∙ ap not c.if-is_err.true in
+    let items : c.push.new.self.items ≡ old = rw not_ok at c.push.ensures.items in (
+      record {
+        sound = c.in_default.ensures;
+        slot = (omega (arith, n, c.len-number.ensures, c.if-number-self.false), omega (arith, n, c.len-number.ensures, c.if-number-self.false));
+        room = omega (arith, c.used.ensures, c.saturating_add.ensures, c.if-saturating_add-self.false);
+      },
+      search rules,
+      ap (map f) items,
+      (refl, refl),
+    )
+
+pub returns : goal.returns
+returns c modest =
+    let f : Bor (List ℕ) → List ℕ = λ r. r.now in
+    let old = c.args.self.now.runs.items in
+    let rs = runs_of c.args.self.now in
+    let run = c.args.run.now in
+    let ok : is_ok c.push.result ≡ true = c.is_err.ensures.negation ∙ ap not c.if-is_err.false in
+    let items : c.push.new.self.items ≡ old ++ (c.args.run ∷ []) = rw ok at c.push.ensures.items in
+    let last : map f c.push.new.self.items ≡ rs ++ (run ∷ []) = ap (map f) items ∙ map-append f old (c.args.run ∷ []) in
+    let more = ap length last ∙ length-append rs (run ∷ []) in
+    let n : c.len-number.result ≡ length rs = omega (arith, c.len-number.ensures, length-row old) in (
+      record {
+        granted = record {
+          sound = c.in_default.ensures;
+          slot = (omega (arith, n, c.if-number-self.false), omega (arith, n, c.if-number-self.false));
+          room = omega (arith, c.used.ensures, c.saturating_add.ensures, c.if-saturating_add-self.false);
+        };
+        number = n;
+        last = last;
+        class = c.class.ensures.entered (length rs) (omega (arith, more)) (ap (λ (x : List (List ℕ)). entry x (length rs)) last ∙ get_or-append_seam rs run [] []);
+      },
+      (refl, refl),
+    )
