@@ -1,1 +1,2 @@
-mod Tails
+mod Refusals
+pub mod Tails

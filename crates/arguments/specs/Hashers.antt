@@ -18,6 +18,12 @@ Opt rest i = Is rest i (codes "--hasher")
 abbrev pub Nameless : List (String Global) → ℕ → Type 0
 Nameless rest i = (h : HasherName) → Is rest i (spelling h) → ⊥
 
+-- the table, and the hasher of this name
+abbrev pub TableHashedAs : List ℕ → List ℕ → Result Hashed Misuse → Type 0
+TableHashedAs name table (Ok a) = (a.table.now ≡ table) × (name ≡ spelling a.hasher)
+TableHashedAs name table (Err (Missing expected)) = ⊥
+TableHashedAs name table (Err (Other expected word)) = (expected ≡ Hasher) × (word.now ≡ name) × ((h : HasherName) → name ≡ spelling h → ⊥)
+
 -- the table at t, and the hasher whose name is at n
 abbrev pub NamedAs : List (String Global) → ℕ → ℕ → Result Hashed Misuse → Type 0
 NamedAs rest t n (Ok a) = Is rest t a.table.now × Is rest n (spelling a.hasher)

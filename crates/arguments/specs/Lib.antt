@@ -3,3 +3,5 @@ pub mod Files
 pub mod Hashers
 pub mod Judging
 pub mod Misuses
+pub mod Texts
+pub mod Told

@@ -1,7 +1,7 @@
 // The commands.
 ghost use Rattle.arguments.specs.Commands.{ParsedAs};
 
-use crate::files::{Changed, Compared, alone, one_script, one_table, table_and_names, two_tables};
+use crate::files::{Changed, Compared, alone, one_file, table_and_names, two_tables};
 use crate::hashed::{Hashed, table_and_hasher};
 use crate::misuse::{Expected, Misuse};
 
@@ -25,7 +25,7 @@ them.
 With hash and classes, --hasher rotating or --hasher fnv1a names the hasher; it
 is rotating where none is named.";
 
-#[derive(Clone, Copy, Debug)]
+#[derive(Clone, Copy, Debug, PartialEq, Eq)]
 pub enum Command<'a> {
     Help,
     Check(&'a str),
@@ -37,6 +37,7 @@ pub enum Command<'a> {
 }
 
 // The first of the arguments is the program's own name.
+#[tactic(auto, using(crate::proofs::Tails::tail_is))]
 pub fn parse_args(args: &[String]) -> Result<Command<'_>, Misuse<'_>>
     ensures { ParsedAs args.now result }
 {
@@ -48,12 +49,12 @@ pub fn parse_args(args: &[String]) -> Result<Command<'_>, Misuse<'_>>
             alone(rest)?;
             Ok(Command::Help)
         }
-        "check" => Ok(Command::Check(one_table(rest)?)),
+        "check" => Ok(Command::Check(one_file(rest, Expected::Table)?)),
         "compare" => Ok(Command::Compare(table_and_names(rest)?)),
         "change" => Ok(Command::Change(two_tables(rest)?)),
         "hash" => Ok(Command::Hash(table_and_hasher(rest)?)),
         "classes" => Ok(Command::Classes(table_and_hasher(rest)?)),
-        "replay" => Ok(Command::Replay(one_script(rest)?)),
+        "replay" => Ok(Command::Replay(one_file(rest, Expected::Script)?)),
         other => Err(Misuse::Other(Expected::Command, other)),
     }
 }

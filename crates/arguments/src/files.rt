@@ -1,10 +1,10 @@
 // The files after a command, and the names of rules.
-ghost use Rattle.arguments.specs.Files.{AloneAs, ChangedAs, ComparedAs, ScriptAs, TableAs};
+ghost use Rattle.arguments.specs.Files.{AloneAs, ChangedAs, ComparedAs, FileAs};
 
 use crate::misuse::{Expected, Misuse};
 
 // A table, and the names of two of its rules.
-#[derive(Clone, Copy, Debug)]
+#[derive(Clone, Copy, Debug, PartialEq, Eq)]
 pub struct Compared<'a> {
     pub table: &'a str,
     pub first: &'a str,
@@ -12,7 +12,7 @@ pub struct Compared<'a> {
 }
 
 // A table, and the one that takes its place.
-#[derive(Clone, Copy, Debug)]
+#[derive(Clone, Copy, Debug, PartialEq, Eq)]
 pub struct Changed<'a> {
     pub old: &'a str,
     pub new: &'a str,
@@ -27,22 +27,13 @@ pub fn alone(rest: &[String]) -> Result<(), Misuse<'_>>
     }
 }
 
-pub fn one_table(rest: &[String]) -> Result<&str, Misuse<'_>>
-    ensures { TableAs rest.now result }
+// One file, of which `expected` says what it is.
+pub fn one_file(rest: &[String], expected: Expected) -> Result<&str, Misuse<'_>>
+    ensures { FileAs expected rest.now result }
 {
     match rest {
-        [] => Err(Misuse::Missing(Expected::Table)),
-        [table] => Ok(table.as_str()),
-        [_, more, ..] => Err(Misuse::Other(Expected::NoMore, more.as_str())),
-    }
-}
-
-pub fn one_script(rest: &[String]) -> Result<&str, Misuse<'_>>
-    ensures { ScriptAs rest.now result }
-{
-    match rest {
-        [] => Err(Misuse::Missing(Expected::Script)),
-        [script] => Ok(script.as_str()),
+        [] => Err(Misuse::Missing(expected)),
+        [file] => Ok(file.as_str()),
         [_, more, ..] => Err(Misuse::Other(Expected::NoMore, more.as_str())),
     }
 }

@@ -1,8 +1,13 @@
 // What the arguments of the commands that judge rules ask for: help, check, compare and change, and nothing of hashes or catalogues.
-ghost use Rattle.arguments.specs.Judging.{AloneAs, ChangeAs, CompareAs, JudgingAs, TableAs};
+ghost use Rattle.std.specs.Prelude.{◌≡◌};
+ghost use Rattle.arguments.specs.Judging.{JudgingAs};
 
+use crate::files::{Changed, Compared, alone, one_file, table_and_names, two_tables};
+use crate::misuse::{self, Expected};
+use std::error::Error;
 use std::fmt;
 
+// Kept: lines of `command::HELP` stand here again: no constant is made of another's text, and a macro's pieces would hide the text as it is printed.
 pub const HELP: &str = "\
 usage: judge COMMAND
 
@@ -15,7 +20,7 @@ usage: judge COMMAND
 
 TABLE, OLD and NEW are files, or - for standard input, at most one of them.";
 
-#[derive(Clone, Copy, Debug)]
+#[derive(Clone, Copy, Debug, PartialEq, Eq)]
 pub enum Command<'a> {
     Help,
     Check {
@@ -32,7 +37,7 @@ pub enum Command<'a> {
     },
 }
 
-#[derive(Clone, Copy, Debug)]
+#[derive(Clone, Copy, Debug, PartialEq, Eq)]
 pub enum Misuse<'a> {
     Unknown(&'a str),
     NoTable,
@@ -42,26 +47,79 @@ pub enum Misuse<'a> {
     Surplus(&'a str),
 }
 
+// The readers that are called below find only what has a name here: the two `_` take up the rest.
+impl<'a> From<misuse::Misuse<'a>> for Misuse<'a> {
+    ghost use Rattle.arguments.specs.Told.{Retells};
+
+    ghost from_gives = { Retells };
+
+    fn from(misuse: misuse::Misuse<'a>) -> Misuse<'a> {
+        match misuse {
+            misuse::Misuse::Missing(Expected::Names) => Misuse::NoNames,
+            misuse::Misuse::Missing(Expected::NewTable) => Misuse::NoNewTable,
+            misuse::Misuse::Missing(_) => Misuse::NoTable,
+            misuse::Misuse::Other(Expected::Command, word) => Misuse::Unknown(word),
+            misuse::Misuse::Other(Expected::File, _) => Misuse::InputTwice,
+            misuse::Misuse::Other(_, word) => Misuse::Surplus(word),
+        }
+    }
+}
+
+impl<'a> From<Misuse<'a>> for misuse::Misuse<'a> {
+    ghost use Rattle.arguments.specs.Told.{Says};
+
+    ghost from_gives = { Says };
+
+    fn from(misuse: Misuse<'a>) -> misuse::Misuse<'a> {
+        match misuse {
+            Misuse::Unknown(word) => misuse::Misuse::Other(Expected::Command, word),
+            Misuse::NoTable => misuse::Misuse::Missing(Expected::Table),
+            Misuse::NoNames => misuse::Misuse::Missing(Expected::Names),
+            Misuse::NoNewTable => misuse::Misuse::Missing(Expected::NewTable),
+            Misuse::InputTwice => misuse::Misuse::Other(Expected::File, "-"),
+            Misuse::Surplus(word) => misuse::Misuse::Other(Expected::NoMore, word),
+        }
+    }
+}
+
 impl<'a> fmt::Display for Misuse<'a> {
     fn fmt<W: fmt::Write>(&self, f: &mut fmt::Formatter<W>) -> fmt::Result {
-        match self {
-            Misuse::Unknown(word) => write!(f, "expected a command, found {word:?}\n{HELP}"),
-            Misuse::NoTable => write!(f, "expected a table after the command\n{HELP}"),
-            Misuse::NoNames => write!(f, "expected two names of rules after the table\n{HELP}"),
-            Misuse::NoNewTable => write!(f, "expected a new table after the old one\n{HELP}"),
-            Misuse::InputTwice => write!(
-                f,
-                "expected standard input for at most one table, found - twice\n{HELP}"
-            ),
-            Misuse::Surplus(word) => write!(
-                f,
-                "expected no more arguments, found {word:?}\n{HELP}"
-            ),
+        let misuse = misuse::Misuse::from(*self);
+        write!(f, "{misuse}\n{HELP}")
+    }
+}
+
+impl<'a> Error for Misuse<'a> {}
+
+impl<'a> From<Compared<'a>> for Command<'a> {
+    ghost use Rattle.arguments.specs.declared.judging.Command.TheVariants.{Compare};
+
+    ghost from_gives = { λ c command. command ≡ Compare c.table c.first c.second };
+
+    fn from(compared: Compared<'a>) -> Command<'a> {
+        Command::Compare {
+            table: compared.table,
+            first: compared.first,
+            second: compared.second,
+        }
+    }
+}
+
+impl<'a> From<Changed<'a>> for Command<'a> {
+    ghost use Rattle.arguments.specs.declared.judging.Command.TheVariants.{Change};
+
+    ghost from_gives = { λ c command. command ≡ Change c.old c.new };
+
+    fn from(changed: Changed<'a>) -> Command<'a> {
+        Command::Change {
+            old: changed.old,
+            new: changed.new,
         }
     }
 }
 
 // The first of the arguments is the program's own name.
+#[tactic(auto, using(crate::proofs::Tails::tail_is))]
 pub fn parse_args(args: &[String]) -> Result<Command<'_>, Misuse<'_>>
     ensures { JudgingAs args.now result }
 {
@@ -69,64 +127,15 @@ pub fn parse_args(args: &[String]) -> Result<Command<'_>, Misuse<'_>>
         return Ok(Command::Help);
     };
     match word.as_str() {
-        "help" | "--help" => without_more(rest),
-        "check" => Ok(Command::Check {
-            table: one_table(rest)?,
-        }),
-        "compare" => rules_to_compare(rest),
-        "change" => tables_to_compare(rest),
-        other => Err(Misuse::Unknown(other)),
-    }
-}
-
-fn without_more(rest: &[String]) -> Result<Command<'_>, Misuse<'_>>
-    ensures { AloneAs rest.now result }
-{
-    match rest {
-        [] => Ok(Command::Help),
-        [more, ..] => Err(Misuse::Surplus(more.as_str())),
-    }
-}
-
-fn one_table(rest: &[String]) -> Result<&str, Misuse<'_>>
-    ensures { TableAs rest.now result }
-{
-    match rest {
-        [] => Err(Misuse::NoTable),
-        [table] => Ok(table.as_str()),
-        [_, more, ..] => Err(Misuse::Surplus(more.as_str())),
-    }
-}
-
-fn rules_to_compare(rest: &[String]) -> Result<Command<'_>, Misuse<'_>>
-    ensures { CompareAs rest.now result }
-{
-    match rest {
-        [] => Err(Misuse::NoTable),
-        [_] | [_, _] => Err(Misuse::NoNames),
-        [table, first, second] => Ok(Command::Compare {
-            table: table.as_str(),
-            first: first.as_str(),
-            second: second.as_str(),
-        }),
-        [_, _, _, more, ..] => Err(Misuse::Surplus(more.as_str())),
-    }
-}
-
-fn tables_to_compare(rest: &[String]) -> Result<Command<'_>, Misuse<'_>>
-    ensures { ChangeAs rest.now result }
-{
-    match rest {
-        [] => Err(Misuse::NoTable),
-        [_] => Err(Misuse::NoNewTable),
-        [old, new] => {
-            let old = old.as_str();
-            let new = new.as_str();
-            if old == "-" && new == "-" {
-                return Err(Misuse::InputTwice);
-            }
-            Ok(Command::Change { old, new })
+        "help" | "--help" => {
+            alone(rest)?;
+            Ok(Command::Help)
         }
-        [_, _, more, ..] => Err(Misuse::Surplus(more.as_str())),
+        "check" => Ok(Command::Check {
+            table: one_file(rest, Expected::Table)?,
+        }),
+        "compare" => Ok(Command::from(table_and_names(rest)?)),
+        "change" => Ok(Command::from(two_tables(rest)?)),
+        other => Err(Misuse::Unknown(other)),
     }
 }

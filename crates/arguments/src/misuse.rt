@@ -1,7 +1,11 @@
 // What is wrong with the arguments.
+ghost use Rattle.std.specs.Prelude.{Some};
+ghost use Rattle.arguments.specs.Texts.{text_of};
+
+use std::error::Error;
 use std::fmt;
 
-#[derive(Clone, Copy)]
+#[derive(Clone, Copy, Debug, PartialEq, Eq)]
 pub enum Expected {
     Command,
     Table,
@@ -14,7 +18,7 @@ pub enum Expected {
     NoMore,
 }
 
-#[derive(Clone, Copy)]
+#[derive(Clone, Copy, Debug, PartialEq, Eq)]
 pub enum Misuse<'a> {
     // the arguments end where this is expected
     Missing(Expected),
@@ -22,9 +26,11 @@ pub enum Misuse<'a> {
     Other(Expected, &'a str),
 }
 
-impl Expected {
-    fn text(self) -> &'static str {
-        match self {
+impl fmt::Display for Expected {
+    ghost output = { λ e. Some (text_of e) };
+
+    fn fmt<W: fmt::Write>(&self, f: &mut fmt::Formatter<W>) -> fmt::Result {
+        f.write_str(match self {
             Expected::Command => "a command",
             Expected::Table => "a table after the command",
             Expected::Script => "a script after the command",
@@ -33,24 +39,20 @@ impl Expected {
             Expected::File => "standard input for at most one table",
             Expected::Hasher => "rotating or fnv1a after --hasher",
             Expected::NoMore => "no more arguments",
-        }
+        })
     }
 }
 
 impl<'a> fmt::Display for Misuse<'a> {
     fn fmt<W: fmt::Write>(&self, f: &mut fmt::Formatter<W>) -> fmt::Result {
         match self {
-            Misuse::Missing(expected) => {
-                let expected = expected.text();
-                write!(f, "expected {expected}")
+            Misuse::Missing(expected) => write!(f, "expected {expected}"),
+            Misuse::Other(expected @ Expected::File, _) => {
+                write!(f, "expected {expected}, found - twice")
             }
-            Misuse::Other(Expected::File, _) => {
-                f.write_str("expected standard input for at most one table, found - twice")
-            }
-            Misuse::Other(expected, found) => {
-                let expected = expected.text();
-                write!(f, "expected {expected}, found {found:?}")
-            }
+            Misuse::Other(expected, found) => write!(f, "expected {expected}, found {found:?}"),
         }
     }
 }
+
+impl<'a> Error for Misuse<'a> {}

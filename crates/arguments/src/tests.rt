@@ -2,6 +2,7 @@
 use crate::command::parse_args;
 use crate::judging::{self, HELP};
 use std::alloc::{AllocError, Global};
+use std::fmt;
 use std::process::Abort;
 use std::test::Fail;
 
@@ -13,18 +14,30 @@ fn words(heap: Global, line: &str) -> Result<Vec<String>, AllocError> {
     Ok(words)
 }
 
-fn reads(rt: &impl Abort, heap: Global, line: &str, expected: &str) -> Result<(), Fail> {
-    let args = words(heap, line)?;
-    match parse_args(args.as_slice()) {
+// What was read prints as expected, and what is wrong with `help` behind it.
+fn prints<C: fmt::Debug, M: fmt::Display>(
+    rt: &impl Abort,
+    heap: Global,
+    read: &Result<C, M>,
+    expected: &str,
+    help: &str,
+) -> Result<(), Fail> {
+    match read {
         Ok(command) => {
             assert_eq!(rt; format!(in heap; "{command:?}")?.as_str(), expected);
             Ok(())
         },
         Err(misuse) => {
-            assert_eq!(rt; format!(in heap; "{misuse}")?.as_str(), expected);
+            let expected = format!(in heap; "{expected}{help}")?;
+            assert_eq!(rt; format!(in heap; "{misuse}")?.as_str(), expected.as_str());
             Ok(())
         },
     }
+}
+
+fn reads(rt: &impl Abort, heap: Global, line: &str, expected: &str) -> Result<(), Fail> {
+    let args = words(heap, line)?;
+    prints(rt, heap, &parse_args(args.as_slice()), expected, "")
 }
 
 #[test]
@@ -139,17 +152,14 @@ fn says_what_is_found(rt: HostRuntime) -> Result<(), Fail> {
 // As `reads`, of the commands that judge rules alone: there the help follows what is wrong.
 fn judges(rt: &impl Abort, heap: Global, line: &str, expected: &str) -> Result<(), Fail> {
     let args = words(heap, line)?;
-    match judging::parse_args(args.as_slice()) {
-        Ok(command) => {
-            assert_eq!(rt; format!(in heap; "{command:?}")?.as_str(), expected);
-            Ok(())
-        },
-        Err(misuse) => {
-            let expected = format!(in heap; "{expected}\n{HELP}")?;
-            assert_eq!(rt; format!(in heap; "{misuse}")?.as_str(), expected.as_str());
-            Ok(())
-        },
-    }
+    let help = format!(in heap; "\n{HELP}")?;
+    prints(
+        rt,
+        heap,
+        &judging::parse_args(args.as_slice()),
+        expected,
+        help.as_str(),
+    )
 }
 
 #[test]

@@ -37,7 +37,7 @@ apart_below (suc m) (suc n) P has apart = omega (arith, apart_below m n Q has' a
     apart' a b c lt lb (inr (e, p)) (inl q) = apart b m c lb (omega arith) q (subst (P m) (sym e) last.2)
     apart' a b c lt lb (inr (e, p)) (inr (f, q)) = apart a b n lt (omega arith) p q
 
-module _ {U : Type 0} (k : Sense U) where
+module _ {U F : Type 0} (k : Sense U F) where
   -- numbers below n of entries that begin a class, each lower than the one before
   abbrev Falling : List (List U) → ℕ → List ℕ → Type 0
   Falling rs n [] = Unit {0}

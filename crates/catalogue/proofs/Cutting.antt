@@ -16,7 +16,7 @@ cond_yes a b x y h = ap (λ (t : Bool). cond t x y) (lt-ltb a b h)
 cond_no : (a b x y : ℕ) → b ≤ a → cond (ltb a b) x y ≡ y
 cond_no a b x y h = ap (λ (t : Bool). cond t x y) (le-ltb a b h)
 
-module _ {U : Type 0} (k : Sense U) (s t : State U) (rs : List (List U)) (n : ℕ) (st : Stored k s rs)
+module _ {U F : Type 0} (k : Sense U F) (s t : State U) (rs : List (List U)) (n : ℕ) (st : Stored k s rs)
     (cut : CutTo s.numbers s.slots n t.numbers) (slots : t.slots ≡ s.slots) (units : t.units ≡ s.units) where
   abbrev front : List (List U)
   front = take n rs

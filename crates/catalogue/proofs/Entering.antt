@@ -14,7 +14,7 @@ use Rattle.catalogue.proofs.Numbering.{begun-like, class-like}
 use Rattle.catalogue.proofs.Pasted.{earlier-kept, pasted-there}
 use Rattle.catalogue.proofs.Stored.{Says, Stored, intact, first-same, class-last, total-last, total-take}
 
-module _ {U : Type 0} (k : Sense U) (l : Lawful k) (s t : State U) (rs : List (List U)) (run : List U) (e : Entered)
+module _ {U F : Type 0} (k : Sense U F) (l : Lawful k) (s t : State U) (rs : List (List U)) (run : List U) (e : Entered)
     (st : Stored k s rs)
     (granted : EnterGranted k (length s.slots) (length s.units) s.numbers.standing s.numbers.used run)
     (placed : Placed k s run e.number e.class t) where

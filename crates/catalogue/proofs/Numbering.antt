@@ -8,7 +8,7 @@ use Rattle.catalogue.specs.Classes.{First, FirstSame, Begins, Begun, ClassOf, en
 use Rattle.catalogue.proofs.Lawful.{Lawful}
 
 -- every entry is sound
-abbrev pub AllSound : {U : Type 0} → Sense U → List (List U) → Type 0
+abbrev pub AllSound : {U F : Type 0} → Sense U F → List (List U) → Type 0
 AllSound k rs = (i : ℕ) → i < length rs → Sound k (entry rs i)
 
 order-one : (i j : ℕ) → (i < j → ⊥) → (j < i → ⊥) → i ≡ j
@@ -18,7 +18,7 @@ order-one i j p q = ⊎_elim (λ lt. absurd (p lt)) (λ le. ⊎_elim (λ lt. abs
 first_one : {P Q : ℕ → Type 0} (n m i j : ℕ) → First P n (Some i) → First Q m (Some j) → Q i → P j → i ≡ j
 first_one n m i j f g qi pj = order-one i j (λ lt. g.2 i lt qi) (λ lt. f.2 j lt pj)
 
-module _ {U : Type 0} (k : Sense U) where
+module _ {U F : Type 0} (k : Sense U F) where
   pub begun-one : (rs : List (List U)) (n m l : ℕ) → Begun k rs n m → Begun k rs n l → m ≡ l
   begun-one rs zero m l p q = p ∙ sym q
   begun-one rs (suc n) m l (inl (b, (x, e, p))) (inl (c, (y, f, q))) = e ∙ ap suc (begun-one rs n x y p q) ∙ sym f

@@ -17,16 +17,16 @@ same-state s t a b c =
     ∙ ap (λ (x : List _). state_of t.numbers t.slots x) c
 
 -- what stands after a call, with the right answer
-pub record After {U : Type 0} (k : Sense U) (s : State U) (rs : List (List U)) (e : Event U) (t : State U) : Type 0 where
+pub record After {U F : Type 0} (k : Sense U F) (s : State U) (rs : List (List U)) (e : Event U F) (t : State U) : Type 0 where
   pub runs : List (List U)
   pub answers : Answers k (length s.slots) (length s.units) rs e runs
   pub stored : Stored k t runs
   pub slots : length t.slots ≡ length s.slots
   pub units : length t.units ≡ length s.units
 
-module _ {U : Type 0} (k : Sense U) (l : Lawful k) where
+module _ {U F : Type 0} (k : Sense U F) (l : Lawful k) where
   -- a call that leaves the state as it is
-  unmoved : (s t : State U) (rs : List (List U)) (e : Event U) → Stored k s rs → t ≡ s → Answers k (length s.slots) (length s.units) rs e rs → After k s rs e t
+  unmoved : (s t : State U) (rs : List (List U)) (e : Event U F) → Stored k s rs → t ≡ s → Answers k (length s.slots) (length s.units) rs e rs → After k s rs e t
   unmoved s t rs e st q a = record {
     runs = rs;
     answers = a;
@@ -35,7 +35,7 @@ module _ {U : Type 0} (k : Sense U) (l : Lawful k) where
     units = ap (λ (x : State U). length x.units) q;
   }
 
-  after : (s t : State U) (rs : List (List U)) (e : Event U) → Stored k s rs → Step k s e t → After k s rs e t
+  after : (s t : State U) (rs : List (List U)) (e : Event U F) → Stored k s rs → Step k s e t → After k s rs e t
   after s t rs (entering run (Ok e)) st step = record {
     runs = rs ++ (run ∷ []);
     answers = entered-answers k l s t rs run e st step.0 step.1;
@@ -57,7 +57,7 @@ module _ {U : Type 0} (k : Sense U) (l : Lawful k) where
     units = ap length step.2;
   }
   after s t rs (cutting n (Err f)) st step =
-      unmoved s t rs (cutting n (Err f)) st (same-state t s step.0.2 step.1 step.2) (omega (arith, step.0.0, st.held.standing), step.0.1, refl)
+      unmoved s t rs (cutting n (Err f)) st (same-state t s step.0.1 step.1 step.2) (omega (arith, step.0.0, st.held.standing), refl)
 
   -- nothing stands at first
   empty : (t : State U) → Reached k [] t → Stored k t []
@@ -72,7 +72,7 @@ module _ {U : Type 0} (k : Sense U) (l : Lawful k) where
         each = λ i lt. absurd (omega arith);
       }
 
-  pub reached-stored : (h : List (Event U)) (t : State U) → Reached k h t → (rs : List (List U)) × Stands k (length t.slots) (length t.units) h rs × Stored k t rs
+  pub reached-stored : (h : List (Event U F)) (t : State U) → Reached k h t → (rs : List (List U)) × Stands k (length t.slots) (length t.units) h rs × Stored k t rs
   reached-stored [] t z = ([], refl, empty t z)
   reached-stored (e ∷ h) t (s, past, step) =
       let before = reached-stored h s past in

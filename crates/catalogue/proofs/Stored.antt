@@ -21,7 +21,7 @@ total-take [] i lt = absurd (omega arith)
 total-take (r ∷ rs) zero lt = omega arith
 total-take (r ∷ rs) (suc i) lt = let e = total-take rs i (omega arith) in omega arith
 
-pub begun-few : {U : Type 0} (k : Sense U) (rs : List (List U)) (n m : ℕ) → Begun k rs n m → m ≤ n
+pub begun-few : {U F : Type 0} (k : Sense U F) (rs : List (List U)) (n m : ℕ) → Begun k rs n m → m ≤ n
 begun-few k rs zero m b = omega (arith, b)
 begun-few k rs (suc n) m (inl (_, (l, e, b))) = omega (arith, e, begun-few k rs n l b)
 begun-few k rs (suc n) m (inr (_, b)) = omega (arith, begun-few k rs n m b)
@@ -29,19 +29,19 @@ begun-few k rs (suc n) m (inr (_, b)) = omega (arith, begun-few k rs n m b)
 ---- what is stored
 
 -- what the slot of entry i says
-pub record Says {U : Type 0} (k : Sense U) (rs : List (List U)) (i : ℕ) (slot : Slot) : Type 0 where
+pub record Says {U F : Type 0} (k : Sense U F) (rs : List (List U)) (i : ℕ) (slot : Slot) : Type 0 where
   pub start : slot.start ≡ total (take i rs)
   pub len : slot.len ≡ length (entry rs i)
   pub begun : Begun k rs i slot.begun
 
-pub record Stored {U : Type 0} (k : Sense U) (s : State U) (rs : List (List U)) : Type 0 where
+pub record Stored {U F : Type 0} (k : Sense U F) (s : State U) (rs : List (List U)) : Type 0 where
   pub held : Holds k s rs
   pub used : s.numbers.used ≡ total rs
   pub slots : length rs ≤ length s.slots
   pub units : total rs ≤ length s.units
   pub each : (i : ℕ) → i < length rs → Says k rs i (slot_at s.slots i)
 
-module _ {U : Type 0} (k : Sense U) (s : State U) (rs : List (List U)) (st : Stored k s rs) where
+module _ {U F : Type 0} (k : Sense U F) (s : State U) (rs : List (List U)) (st : Stored k s rs) where
   pub intact : Intact k s
   intact = record {
     standing = omega (arith, st.held.standing, st.slots);

@@ -2,12 +2,12 @@
 use Rattle.std.proofs.Common.{◌≡◌, ℕ, ◌+◌, ◌<◌, ◌≤◌, List, [], ◌∷◌, length, Some, None, Ok, Err, Option, Result, sym, refl, ap, ◌∙◌, subst, inl, inr, arith}
 use Rattle.std.proofs.lemmas.Bool.{cases_lt}
 use Rattle.catalogue.specs.declared.fault.Fault.{Fault}
-use Rattle.catalogue.specs.declared.fault.Fault.TheVariants.{Input, NoSlot, NoUnits, NotStanding}
-use Rattle.catalogue.specs.declared.fault.InputFault.{InputFault}
+use Rattle.catalogue.specs.declared.fault.Fault.TheVariants.{Input, NoSlot, NoUnits}
+use Rattle.catalogue.specs.declared.fault.NotStanding.{NotStanding}
 use Rattle.catalogue.specs.declared.record.Entered.{Entered}
 use Rattle.catalogue.specs.Calls.{SlotFree, EnterRefused, FindRefused}
 use Rattle.catalogue.specs.Classes.{First, ClassOf}
-use Rattle.catalogue.specs.Kinds.{Sense, Sound, FirstMet}
+use Rattle.catalogue.specs.Kinds.{Sense, Sound}
 use Rattle.catalogue.specs.Model.{Event, entering, finding, cutting, call, calls, total, Answers, Stands}
 use Rattle.catalogue.proofs.Numbering.{class-one}
 
@@ -28,62 +28,41 @@ no_way : {A : Type 0} → ◌≡◌ {A = ℕ} 0 1 → A
 no_way z = absurd (omega (arith, z))
 
 -- a kind under two hashers
-module _ {U : Type 0} (meets : ℕ → List U → Type 0) (same : List U → List U → Type 0) (h₁ h₂ : List U → ℕ) where
-  abbrev pub k₁ : Sense U
-  k₁ = record { meets = meets; same = same; hashed = h₁ }
+module _ {U F : Type 0} (meets : ℕ → List U → Type 0) (same : List U → List U → Type 0) (number : F → ℕ)
+    (one_fault : (e e' : F) → number e ≡ number e' → e ≡ e') (h₁ h₂ : List U → ℕ) where
+  abbrev pub k₁ : Sense U F
+  k₁ = record { meets = meets; same = same; hashed = h₁; number = number }
 
-  abbrev pub k₂ : Sense U
-  k₂ = record { meets = meets; same = same; hashed = h₂ }
+  abbrev pub k₂ : Sense U F
+  k₂ = record { meets = meets; same = same; hashed = h₂; number = number }
 
-  input-one : (run : List U) (e e' : InputFault) → FirstMet k₁ run e.number → FirstMet k₂ run e'.number → Input e ≡ Input e'
-  input-one run e e' a b =
-      let F : ℕ → Fault = λ n. Input (record { number = n }) in
-      ap F (least-one (λ n. meets n run) e.number e'.number a.0 b.0 a.1 b.1)
+  -- what refuses a run
+  found-one : (run : List U) (e e' : F) → FindRefused k₁ run e → FindRefused k₂ run e' → e ≡ e'
+  found-one run e e' a b = one_fault e e' (least-one (λ n. meets n run) (number e) (number e') a.0 b.0 a.1 b.1)
 
-  refused-one : (slots units n u : ℕ) (run : List U) (f g : Fault) → EnterRefused k₁ slots units n u run f → EnterRefused k₂ slots units n u run g → f ≡ g
-  refused-one slots units n u run (Input e) (Input e') a b = input-one run e e' a b
-  refused-one slots units n u run (Input e) NoSlot a b = absurd (b.0 e.number a.0)
-  refused-one slots units n u run (Input e) NoUnits a b = absurd (b.0 e.number a.0)
-  refused-one slots units n u run (Input e) NotStanding a b = absurd b
-  refused-one slots units n u run NoSlot (Input e) a b = absurd (a.0 e.number b.0)
+  refused-one : (slots units n u : ℕ) (run : List U) (f g : Fault F) → EnterRefused k₁ slots units n u run f → EnterRefused k₂ slots units n u run g → f ≡ g
+  refused-one slots units n u run (Input e) (Input e') a b = ap Input (found-one run e e' a b)
+  refused-one slots units n u run (Input e) NoSlot a b = absurd (b.0 (number e) a.0)
+  refused-one slots units n u run (Input e) NoUnits a b = absurd (b.0 (number e) a.0)
+  refused-one slots units n u run NoSlot (Input e) a b = absurd (a.0 (number e) b.0)
   refused-one slots units n u run NoSlot NoSlot a b = refl
   refused-one slots units n u run NoSlot NoUnits a b = absurd (a.1 b.1)
-  refused-one slots units n u run NoSlot NotStanding a b = absurd b
-  refused-one slots units n u run NoUnits (Input e) a b = absurd (a.0 e.number b.0)
+  refused-one slots units n u run NoUnits (Input e) a b = absurd (a.0 (number e) b.0)
   refused-one slots units n u run NoUnits NoSlot a b = absurd (b.1 a.1)
   refused-one slots units n u run NoUnits NoUnits a b = refl
-  refused-one slots units n u run NoUnits NotStanding a b = absurd b
-  refused-one slots units n u run NotStanding g a b = absurd a
 
   -- a run that is entered is not refused
-  granted-not : (k : Sense U) (slots units n u : ℕ) (run : List U) (f : Fault) → Sound k run → SlotFree slots n → u + length run ≤ units → EnterRefused k slots units n u run f → ⊥
-  granted-not k slots units n u run (Input e) sound slot room b = sound e.number b.0
+  granted-not : (k : Sense U F) (slots units n u : ℕ) (run : List U) (f : Fault F) → Sound k run → SlotFree slots n → u + length run ≤ units → EnterRefused k slots units n u run f → ⊥
+  granted-not k slots units n u run (Input e) sound slot room b = sound (k.number e) b.0
   granted-not k slots units n u run NoSlot sound slot room b = b.1 slot
   granted-not k slots units n u run NoUnits sound slot room b = omega (arith, room, b.2)
-  granted-not k slots units n u run NotStanding sound slot room b = b
-
-  found-one : (run : List U) (f g : Fault) → FindRefused k₁ run f → FindRefused k₂ run g → f ≡ g
-  found-one run (Input e) (Input e') a b = input-one run e e' a b
-  found-one run (Input e) NoSlot a b = absurd b
-  found-one run (Input e) NoUnits a b = absurd b
-  found-one run (Input e) NotStanding a b = absurd b
-  found-one run NoSlot g a b = absurd a
-  found-one run NoUnits g a b = absurd a
-  found-one run NotStanding g a b = absurd a
-
-  -- nor is one that is looked for
-  sound-not : (k : Sense U) (run : List U) (f : Fault) → Sound k run → FindRefused k run f → ⊥
-  sound-not k run (Input e) a b = a e.number b.0
-  sound-not k run NoSlot a b = b
-  sound-not k run NoUnits a b = b
-  sound-not k run NotStanding a b = b
 
   entered-one : (e e' : Entered) → e.number ≡ e'.number → e.class ≡ e'.class → e ≡ e'
   entered-one e e' a b =
       let F : ℕ → ℕ → Entered = λ n c. record { number = n; class = c } in
       ap (λ (n : ℕ). F n e.class) a ∙ ap (λ (c : ℕ). F e'.number c) b
 
-  enter_one : (slots units : ℕ) (rs : List (List U)) (run : List U) (r r' : Result Entered Fault) (x y : List (List U))
+  enter_one : (slots units : ℕ) (rs : List (List U)) (run : List U) (r r' : Result Entered (Fault F)) (x y : List (List U))
       → Answers k₁ slots units rs (entering run r) x → Answers k₂ slots units rs (entering run r') y → (r ≡ r') × (x ≡ y)
   enter_one slots units rs run (Ok e) (Ok e') x y a b =
       let xy : x ≡ y = a.last ∙ sym b.last in
@@ -95,21 +74,21 @@ module _ {U : Type 0} (meets : ℕ → List U → Type 0) (same : List U → Lis
       absurd (granted-not k₁ slots units (length rs) (total rs) run f b.granted.sound b.granted.slot b.granted.room a.0)
   enter_one slots units rs run (Err f) (Err g) x y a b = (ap Err (refused-one slots units (length rs) (total rs) run f g a.0 b.0), a.1 ∙ sym b.1)
 
-  find-one : (slots units : ℕ) (rs : List (List U)) (run : List U) (r r' : Result (Option ℕ) Fault) (x y : List (List U))
+  find-one : (slots units : ℕ) (rs : List (List U)) (run : List U) (r r' : Result (Option ℕ) F) (x y : List (List U))
       → Answers k₁ slots units rs (finding run r) x → Answers k₂ slots units rs (finding run r') y → (r ≡ r') × (x ≡ y)
   find-one slots units rs run (Ok o) (Ok o') x y a b = (ap Ok (first_one _ (length rs) o o' a.1 b.1), a.2 ∙ sym b.2)
-  find-one slots units rs run (Ok o) (Err f) x y a b = absurd (sound-not k₂ run f a.0 b.0)
-  find-one slots units rs run (Err f) (Ok o) x y a b = absurd (sound-not k₁ run f b.0 a.0)
+  find-one slots units rs run (Ok o) (Err f) x y a b = absurd (a.0 (number f) b.0.0)
+  find-one slots units rs run (Err f) (Ok o) x y a b = absurd (b.0 (number f) a.0.0)
   find-one slots units rs run (Err f) (Err g) x y a b = (ap Err (found-one run f g a.0 b.0), a.1 ∙ sym b.1)
 
-  cut-one : (slots units : ℕ) (rs : List (List U)) (n : ℕ) (r r' : Result (Unit {0}) Fault) (x y : List (List U))
+  cut-one : (slots units : ℕ) (rs : List (List U)) (n : ℕ) (r r' : Result (Unit {0}) NotStanding) (x y : List (List U))
       → Answers k₁ slots units rs (cutting n r) x → Answers k₂ slots units rs (cutting n r') y → (r ≡ r') × (x ≡ y)
   cut-one slots units rs n (Ok u) (Ok u') x y a b = (refl, a.1 ∙ sym b.1)
   cut-one slots units rs n (Ok u) (Err f) x y a b = absurd (omega (arith, a.0, b.0))
   cut-one slots units rs n (Err f) (Ok u) x y a b = absurd (omega (arith, a.0, b.0))
-  cut-one slots units rs n (Err f) (Err g) x y a b = (ap Err (a.1 ∙ sym b.1), a.2 ∙ sym b.2)
+  cut-one slots units rs n (Err f) (Err g) x y a b = (refl, a.1 ∙ sym b.1)
 
-  answer-one : (slots units : ℕ) (rs : List (List U)) (e e' : Event U) (x y : List (List U))
+  answer-one : (slots units : ℕ) (rs : List (List U)) (e e' : Event U F) (x y : List (List U))
       → Answers k₁ slots units rs e x → Answers k₂ slots units rs e' y → call e ≡ call e' → (e ≡ e') × (x ≡ y)
   answer-one slots units rs (entering run r) (entering run' r') x y a b q =
       let same-run : run ≡ run' = cc in
@@ -130,7 +109,7 @@ module _ {U : Type 0} (meets : ℕ → List U → Type 0) (same : List U → Lis
       let one = cut-one slots units rs n r r' x y a (subst (λ (u : ℕ). Answers k₂ slots units rs (cutting u r') y) (sym same-cut) b) in
       (ap (λ (u : ℕ). cutting u r) same-cut ∙ ap (cutting m) one.0, one.1)
 
-  pub stand-one : (slots units : ℕ) (h j : List (Event U)) (x y : List (List U)) → Stands k₁ slots units h x → Stands k₂ slots units j y → calls h ≡ calls j → (h ≡ j) × (x ≡ y)
+  pub stand-one : (slots units : ℕ) (h j : List (Event U F)) (x y : List (List U)) → Stands k₁ slots units h x → Stands k₂ slots units j y → calls h ≡ calls j → (h ≡ j) × (x ≡ y)
   stand-one slots units [] [] x y a b q = (refl, a ∙ sym b)
   stand-one slots units [] (e ∷ j) x y a b q = no_way (cc)
   stand-one slots units (e ∷ h) [] x y a b q = no_way (cc)
@@ -139,4 +118,4 @@ module _ {U : Type 0} (meets : ℕ → List U → Type 0) (same : List U → Lis
       let rest : calls h ≡ calls j = cc in
       let before = stand-one slots units h j rs rs' past past' rest in
       let one = answer-one slots units rs e e' x y a (subst (λ (z : List (List U)). Answers k₂ slots units z e' y) (sym before.1) b) first in
-      (ap (λ (z : Event U). z ∷ h) one.0 ∙ ap (λ (z : List (Event U)). e' ∷ z) before.0, one.1)
+      (ap (λ (z : Event U F). z ∷ h) one.0 ∙ ap (λ (z : List (Event U F)). e' ∷ z) before.0, one.1)

@@ -4,9 +4,9 @@ ghost use Rattle.catalogue.specs.Calls.{PartDone, RunDone};
 ghost use Rattle.catalogue.specs.Kinds.{sense};
 ghost use Rattle.catalogue.specs.Promise.{Promised};
 ghost use Rattle.catalogue.specs.States.{numbers_of, state};
-ghost use Rattle.hashing.specs.Words.{of_words};
+ghost use Rattle.hashing.specs.Words.{hash_by};
 
-use crate::fault::Fault;
+use crate::fault::NotStanding;
 use crate::kind::Kind;
 use crate::record::{Catalogue, Slot};
 use hashing::hasher::Hasher;
@@ -19,7 +19,7 @@ pub fn class_count<K: Kind, H: Hasher>(
     units: &[K::Unit],
 ) -> usize
     ensures count { result ≡ cat.now.classes }
-    ensures promise { Promised (sense K.meets K.same K.feed kind.now) (of_words H.begun H.fed H.ended)
+    ensures promise { Promised (sense K.meets K.same K.feed K.Fault.number kind.now) (hash_by H.Hasher)
         (state cat.now slots.now units.now) result }
 {
     cat.classes
@@ -33,14 +33,15 @@ pub fn standing<H>(cat: &Catalogue<H>) -> usize
 }
 
 /// The class of an entry.
-pub fn class_of<H>(cat: &Catalogue<H>, slots: &[Slot], number: usize) -> Result<usize, Fault>
+// Kept: beside `hash_of`, since each part of an entry is asked for apart, by a name of its own.
+pub fn class_of<H>(cat: &Catalogue<H>, slots: &[Slot], number: usize) -> Result<usize, NotStanding>
     ensures { PartDone (numbers_of cat.now) slots.now number (λ s. s.class) result }
 {
     Ok(slot_of(cat, slots, number)?.class)
 }
 
 /// The hash of an entry.
-pub fn hash_of<H>(cat: &Catalogue<H>, slots: &[Slot], number: usize) -> Result<u64, Fault>
+pub fn hash_of<H>(cat: &Catalogue<H>, slots: &[Slot], number: usize) -> Result<u64, NotStanding>
     ensures { PartDone (numbers_of cat.now) slots.now number (λ s. s.hash) result }
 {
     Ok(slot_of(cat, slots, number)?.hash)
@@ -52,24 +53,17 @@ pub fn run_of<'a, H, U>(
     slots: &[Slot],
     units: &'a [U],
     number: usize,
-) -> Result<&'a [U], Fault>
+) -> Result<&'a [U], NotStanding>
     ensures { RunDone (numbers_of cat.now) slots.now units.now number result }
 {
-    let slot = slot_of(cat, slots, number)?;
-    let start = slot.start;
-    let len = slot.len;
-    if start > units.len() || len > units.len() - start {
-        return Err(Fault::NotStanding);
-    }
-    let end = start + len;
-    Ok(&units[start..end])
+    slot_of(cat, slots, number)?.run(units).ok_or(NotStanding)
 }
 
-fn slot_of<H>(cat: &Catalogue<H>, slots: &[Slot], number: usize) -> Result<Slot, Fault>
+fn slot_of<H>(cat: &Catalogue<H>, slots: &[Slot], number: usize) -> Result<Slot, NotStanding>
     ensures { PartDone (numbers_of cat.now) slots.now number (λ s. s) result }
 {
-    if number >= cat.standing || number >= slots.len() {
-        return Err(Fault::NotStanding);
+    if number >= cat.standing {
+        return Err(NotStanding);
     }
-    Ok(slots[number])
+    slots.get(number).copied().ok_or(NotStanding)
 }

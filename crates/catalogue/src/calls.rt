@@ -2,10 +2,10 @@
 ghost use Rattle.catalogue.specs.Calls.{CutDone, EnterDone, FindDone};
 ghost use Rattle.catalogue.specs.Kinds.{sense};
 ghost use Rattle.catalogue.specs.States.{nothing, numbers_of, slot_at, state};
-ghost use Rattle.hashing.specs.Words.{of_words};
-ghost use Rattle.std.specs.Prelude.{◌≡◌};
+ghost use Rattle.hashing.specs.Words.{hash_by};
+ghost use Rattle.std.specs.Prelude.{◌≡◌, ◌+◌, ◌<◌, ◌≤◌, MatchOption};
 
-use crate::fault::Fault;
+use crate::fault::{Fault, NotStanding};
 use crate::kind::Kind;
 use crate::record::{Catalogue, Entered, MOST_ENTRIES, Slot};
 use crate::search::first_same;
@@ -33,8 +33,8 @@ pub fn enter<K: Kind, H: Hasher>(
     slots: &mut [Slot],
     units: &mut [K::Unit],
     run: &[K::Unit],
-) -> Result<Entered, Fault>
-    ensures { EnterDone (sense K.meets K.same K.feed kind.now (of_words H.begun H.fed H.ended))
+) -> Result<Entered, Fault<K::Fault>>
+    ensures { EnterDone (sense K.meets K.same K.feed K.Fault.number kind.now (hash_by H.Hasher))
         (state cat.old slots.old units.old) run.now result
         (state cat.new slots.new units.new) }
 {
@@ -42,13 +42,10 @@ pub fn enter<K: Kind, H: Hasher>(
     let number = cat.standing;
     let start = cat.used;
     let begun = cat.classes;
-    let len = run.len();
     if number >= slots.len() || number >= MOST_ENTRIES {
         return Err(Fault::NoSlot);
     }
-    if start > units.len() || len > units.len() - start {
-        return Err(Fault::NoUnits);
-    }
+    let end = end_within(start, run.len(), units.len()).ok_or(Fault::NoUnits)?;
     let hash = kind.hash::<H>(run);
     let (class, classes) = match first_same(kind, number, slots, units, hash, run) {
         Some(i) => (slots[i].class, begun),
@@ -56,19 +53,15 @@ pub fn enter<K: Kind, H: Hasher>(
     };
     slots[number] = Slot {
         start,
-        len,
+        len: run.len(),
         hash,
         class,
         begun,
     };
-    let end = start + len;
     units[start..end].copy_from_slice(run);
-    *cat = Catalogue {
-        standing: number + 1,
-        used: end,
-        classes,
-        hasher: PhantomData,
-    };
+    cat.standing = number + 1;
+    cat.used = end;
+    cat.classes = classes;
     Ok(Entered { number, class })
 }
 
@@ -79,8 +72,8 @@ pub fn find<K: Kind, H: Hasher>(
     slots: &[Slot],
     units: &[K::Unit],
     run: &[K::Unit],
-) -> Result<Option<usize>, Fault>
-    ensures { FindDone (sense K.meets K.same K.feed kind.now (of_words H.begun H.fed H.ended))
+) -> Result<Option<usize>, K::Fault>
+    ensures { FindDone (sense K.meets K.same K.feed K.Fault.number kind.now (hash_by H.Hasher))
         (state cat.now slots.now units.now) run.now result }
 {
     kind.intake(run)?;
@@ -89,37 +82,31 @@ pub fn find<K: Kind, H: Hasher>(
 }
 
 /// Keeps the first `keep` entries. The memory behind them is used again.
-pub fn cut<H>(cat: &mut Catalogue<H>, slots: &[Slot], keep: usize) -> Result<(), Fault>
+pub fn cut<H>(cat: &mut Catalogue<H>, slots: &[Slot], keep: usize) -> Result<(), NotStanding>
     ensures { CutDone (numbers_of cat.old) slots.now keep result (numbers_of cat.new) }
 {
     if keep > cat.standing {
-        return Err(Fault::NotStanding);
+        return Err(NotStanding);
     }
     if keep < cat.standing {
         let first = slot_at(slots, keep);
-        *cat = Catalogue {
-            standing: keep,
-            used: first.start,
-            classes: first.begun.min(keep),
-            hasher: PhantomData,
-        };
+        cat.standing = keep;
+        cat.used = first.start;
+        cat.classes = first.begun.min(keep);
     }
     Ok(())
+}
+
+// Where `len` units from `start` on end, if they are among the first `units`.
+fn end_within(start: usize, len: usize, units: usize) -> Option<usize>
+    ensures { MatchOption result (units < start + len) (λ end. (end ≡ start + len) × (end ≤ units)) }
+{
+    start.checked_add(len).filter(|end| *end <= units)
 }
 
 // An empty slot stands for one that is not within the memory.
 fn slot_at(slots: &[Slot], i: usize) -> Slot
     ensures { result ≡ slot_at slots.now i }
 {
-    if i < slots.len() {
-        slots[i]
-    } else {
-        Slot {
-            start: 0,
-            len: 0,
-            hash: 0,
-            class: 0,
-            begun: 0,
-        }
-    }
+    slots.get(i).copied().unwrap_or_default()
 }

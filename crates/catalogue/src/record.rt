@@ -1,4 +1,5 @@
 // What the calls keep: a record of three numbers, and the slots and units that the caller hands to each call.
+// Kept: the slots and units are no fields of the record, since its memory is fixed, and lent anew to each call.
 ghost use Rattle.std.specs.Prelude.{◌≤◌};
 
 use std::marker::PhantomData;
@@ -6,15 +7,28 @@ use std::marker::PhantomData;
 /// The most entries that can stand.
 pub const MOST_ENTRIES: usize = 65536;
 
-/// What is known of one entry: its units are the `len` ones from `start` on.
-#[derive(Clone, Copy)]
+/// What is known of one entry: its units are the `len` ones from `start` on. The default is an empty slot.
+#[derive(Clone, Copy, Debug, Default, PartialEq, Eq)]
 pub struct Slot {
+    // Kept: a start and a length and no slice, since the units are lent anew to each call.
     pub start: usize,
     pub len: usize,
     pub hash: u64,
     pub class: usize,
     // how many classes began before this entry
     pub begun: usize,
+}
+
+impl Slot {
+    ghost use Rattle.catalogue.specs.States.{RunWithin};
+
+    /// The units that the slot names, where all of them are within `units`.
+    pub fn run<U>(self, units: &[U]) -> Option<&[U]>
+        ensures { RunWithin units.now self result }
+    {
+        let end = self.start.checked_add(self.len)?;
+        units.get(self.start..end)
+    }
 }
 
 /// The record of a catalogue whose hashes are those of `H`.
@@ -29,7 +43,7 @@ pub struct Catalogue<H> {
 }
 
 /// The number of an entry, and its class.
-#[derive(Clone, Copy)]
+#[derive(Clone, Copy, Debug, PartialEq, Eq)]
 pub struct Entered {
     pub number: usize,
     pub class: usize,

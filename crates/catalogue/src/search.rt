@@ -1,5 +1,5 @@
 // The first standing entry that is the same as a run.
-ghost use Rattle.std.specs.Prelude.{◌≡◌, ℕ, ◌<◌, List, length, IfSome, Decides};
+ghost use Rattle.std.specs.Prelude.{◌≡◌, ℕ, ◌<◌, List, ◌↔◌, length, IfSome, IsTrue};
 ghost use Rattle.catalogue.specs.Kinds.{SoundBy, sense};
 ghost use Rattle.catalogue.specs.States.{FirstAt, Intact, Numbers, Within, run_of, state_of};
 
@@ -11,16 +11,9 @@ fn same_at<K: Kind>(kind: &K, slot: Slot, units: &[K::Unit], run: &[K::Unit]) ->
     ensures { Within slot units.now
         → SoundBy (K.meets kind.now) (run_of units.now slot)
         → SoundBy (K.meets kind.now) run.now
-        → Decides result (K.same kind.now (run_of units.now slot) run.now) }
+        → (IsTrue result ↔ K.same kind.now (run_of units.now slot) run.now) }
 {
-    let start = slot.start;
-    let len = slot.len;
-    if start <= units.len() && len <= units.len() - start {
-        let end = start + len;
-        kind.compare(&units[start..end], run)
-    } else {
-        false
-    }
+    slot.run(units).is_some_and(|held| kind.compare(held, run))
 }
 
 // Among the first `standing` slots; an entry is compared only where its hash is that of the run.
@@ -34,18 +27,11 @@ pub(crate) fn first_same<K: Kind>(
 ) -> Option<usize>
     ensures inside { IfSome result (λ i. i < length slots.now) }
     ensures first { (f : List ℕ → ℕ) (a : Numbers) → a.standing ≡ standing
-        → Intact (sense K.meets K.same K.feed kind.now f) (state_of a slots.now units.now)
+        → Intact (sense K.meets K.same K.feed K.Fault.number kind.now f) (state_of a slots.now units.now)
         → SoundBy (K.meets kind.now) run.now
         → hash ≡ f (K.feed kind.now f run.now)
-        → FirstAt (sense K.meets K.same K.feed kind.now f) (state_of a slots.now units.now) run.now result }
+        → FirstAt (sense K.meets K.same K.feed K.Fault.number kind.now f) (state_of a slots.now units.now) run.now result }
 {
-    let mut i = 0;
-    while i < standing && i < slots.len() {
-        let slot = slots[i];
-        if slot.hash == hash && same_at(kind, slot, units, run) {
-            return Some(i);
-        }
-        i += 1;
-    }
-    None
+    slots.iter().take(standing).position(|slot| slot.hash == hash
+        && same_at(kind, *slot, units, run))
 }

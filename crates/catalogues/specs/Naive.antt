@@ -2,10 +2,13 @@
 use Rattle.std.specs.Prelude.{◌≡◌, ℕ, ◌+◌, ◌^◌, ◌<◌, ◌≤◌, List, length, map, vec_len, vec_capacity, Some, None, Ok, Err}
 use Rattle.catalogue.specs.Calls.{EnterGranted}
 use Rattle.catalogue.specs.declared.fault.Fault.{Fault}
-use Rattle.catalogue.specs.Faults.{number_of}
+use Rattle.catalogue.specs.declared.fault.NotStanding.{NotStanding}
+use Rattle.catalogue.specs.Faults.{number_of, not_standing_number}
 use Rattle.catalogue.specs.Kinds.{Sense}
 use Rattle.catalogue.specs.Model.{Event, entering, finding, cutting, total, Answers}
 use Rattle.kinds.specs.Names.{meets_name}
+use Rattle.kinds.specs.Numbers.{name_number}
+use Rattle.kinds.specs.declared.names.NameFault.{NameFault}
 use Rattle.catalogues.specs.declared.model.Model.{Model}
 use Rattle.catalogues.specs.declared.words.Answer.{Answer}
 use Rattle.catalogues.specs.declared.words.Call.{Call}
@@ -13,8 +16,8 @@ use Rattle.catalogues.specs.declared.words.Call.TheVariants.{Enter, Find, Cut as
 use Rattle.catalogues.specs.declared.words.Answer.TheVariants.{Entered, Found, NotFound, Cut, Other, Refused}
 
 -- names are the same when they are equal; the model has no hash
-abbrev pub names : Sense ℕ
-names = record { meets = meets_name; same = λ a b. a ≡ b; hashed = λ run. 0 }
+abbrev pub names : Sense ℕ NameFault
+names = record { meets = meets_name; same = λ a b. a ≡ b; hashed = λ run. 0; number = name_number }
 
 abbrev pub runs_of : Model → List (List ℕ)
 runs_of m = map (λ r. r.now) m.runs.items
@@ -30,13 +33,13 @@ abbrev pub SameRoom : Model → Model → Type 0
 SameRoom m t = (t.slots ≡ m.slots) × (t.units ≡ m.units)
 
 -- a call of a catalogue of names where the runs of m stand, its answer, and the runs that stand then
-abbrev pub Answered : Model → Event ℕ → Model → Type 0
+abbrev pub Answered : Model → Event ℕ NameFault → Model → Type 0
 Answered m e t = Answers names m.slots m.units (runs_of m) e (runs_of t) × SameRoom m t
 
 -- the answers of the model are those of a catalogue; but where its own vector is full it may have no memory for a run that is to be entered
 abbrev pub EnterAnswered : Model → List ℕ → Answer → Model → Type 0
 EnterAnswered m run (Entered n c) t = Answered m (entering run (Ok (record { number = n; class = c }))) t
-EnterAnswered m run (Refused n) t = (f : Fault) × (n ≡ number_of f) × Answered m (entering run (Err f)) t
+EnterAnswered m run (Refused n) t = (f : Fault NameFault) × (n ≡ number_of name_number f) × Answered m (entering run (Err f)) t
 EnterAnswered m run Other t = EnterGranted names m.slots m.units (length (runs_of m)) (total (runs_of m)) run
     × (vec_capacity m.runs ≤ vec_len m.runs) × (runs_of t ≡ runs_of m) × SameRoom m t
 EnterAnswered m run _ t = ⊥
@@ -44,12 +47,12 @@ EnterAnswered m run _ t = ⊥
 abbrev pub FindAnswered : Model → List ℕ → Answer → Type 0
 FindAnswered m run (Found i) = Answered m (finding run (Ok (Some i))) m
 FindAnswered m run NotFound = Answered m (finding run (Ok None)) m
-FindAnswered m run (Refused n) = (f : Fault) × (n ≡ number_of f) × Answered m (finding run (Err f)) m
+FindAnswered m run (Refused n) = (e : NameFault) × (n ≡ name_number e) × Answered m (finding run (Err e)) m
 FindAnswered m run _ = ⊥
 
 abbrev pub CutAnswered : Model → ℕ → Answer → Model → Type 0
 CutAnswered m keep Cut t = Answered m (cutting keep (Ok tt)) t
-CutAnswered m keep (Refused n) t = (f : Fault) × (n ≡ number_of f) × Answered m (cutting keep (Err f)) t
+CutAnswered m keep (Refused n) t = (f : NotStanding) × (n ≡ not_standing_number f) × Answered m (cutting keep (Err f)) t
 CutAnswered m keep _ t = ⊥
 
 -- the other calls are not the model's to answer

@@ -2,8 +2,8 @@
 use crate::memory::Store;
 use crate::model::Model;
 use crate::picks::Picks;
-use crate::scripts::CLEAN;
 use crate::words::Answer;
+use catalogue::record::Slot;
 use hashing::fnv1a::Fnv1a;
 use hashing::hasher::Hasher;
 use hashing::rotating::Rotating;
@@ -37,6 +37,7 @@ pub(crate) fn follows<H: Hasher>(rt: &impl Abort, heap: Global, store: &mut Stor
     }
 }
 
+// Kept: what can stop a test gives no memory, so both are handed down.
 fn same_history(
     rt: &impl Abort,
     heap: Global,
@@ -44,9 +45,9 @@ fn same_history(
     slots: usize,
     units: usize,
 ) -> Result<(), Fail> {
-    let mut rotating = Store::<Rotating>::new(heap, slots, units, CLEAN, 0)?;
+    let mut rotating = Store::<Rotating>::new(heap, slots, units, Slot::default(), 0)?;
     follows(rt, heap, &mut rotating, seed);
-    let mut fnv1a = Store::<Fnv1a>::new(heap, slots, units, CLEAN, 0)?;
+    let mut fnv1a = Store::<Fnv1a>::new(heap, slots, units, Slot::default(), 0)?;
     follows(rt, heap, &mut fnv1a, seed);
     Ok(())
 }

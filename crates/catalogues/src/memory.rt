@@ -2,6 +2,7 @@
 use crate::words::{Answer, Call};
 use catalogue::asking::{class_count, class_of, hash_of, run_of, standing};
 use catalogue::calls::{cut, enter, find};
+use catalogue::fault::{NotStanding, Numbered};
 use catalogue::kind::Kind;
 use catalogue::record::{Catalogue, Slot};
 use hashing::hasher::Hasher;
@@ -9,6 +10,7 @@ use kinds::names::Names;
 use std::alloc::{AllocError, Global};
 
 /// A catalogue, and the slots and units that are handed to its calls.
+// Kept: the calls of a script own their runs, and these are lent theirs; and here fewer slots and units can be handed than there are.
 #[derive(Drop)]
 pub(crate) struct Store<H> {
     pub(crate) cat: Catalogue<H>,
@@ -78,21 +80,20 @@ impl<H: Hasher> Store<H> {
 
     // The class of an entry that has this run and this run's hash.
     pub(crate) fn entry(&self, number: usize, run: &[u8]) -> Answer {
-        let slots = self.slots.as_slice();
-        let units = self.units.as_slice();
-        let Ok(stored) = run_of(&self.cat, slots, units, number) else {
-            return Answer::Refused(22);
-        };
-        let Ok(hash) = hash_of(&self.cat, slots, number) else {
-            return Answer::Refused(22);
-        };
-        if stored != run || hash != Names.hash::<H>(run) {
-            return Answer::Other;
-        }
-        match class_of(&self.cat, slots, number) {
-            Ok(class) => Answer::Class(class),
+        match self.stored(number, run) {
+            Ok(answer) => answer,
             Err(fault) => Answer::Refused(fault.number()),
         }
+    }
+
+    fn stored(&self, number: usize, run: &[u8]) -> Result<Answer, NotStanding> {
+        let slots = self.slots.as_slice();
+        let stored = run_of(&self.cat, slots, self.units.as_slice(), number)?;
+        let hash = hash_of(&self.cat, slots, number)?;
+        if stored != run || hash != Names.hash::<H>(run) {
+            return Ok(Answer::Other);
+        }
+        Ok(Answer::Class(class_of(&self.cat, slots, number)?))
     }
 
     // What can be asked of an entry where only some slots and units are handed.
@@ -107,14 +108,11 @@ impl<H: Hasher> Store<H> {
 }
 
 // The number of the fault, or 0.
-fn refusal<T: Drop>(answer: Result<T, catalogue::fault::Fault>) -> u8 {
-    match answer {
-        Ok(_) => 0,
-        Err(fault) => fault.number(),
-    }
+fn refusal<T: Drop>(answer: Result<T, NotStanding>) -> u8 {
+    answer.err().map_or(0, |fault| fault.number())
 }
 
 // The first n of a row, or all of it.
 fn front<T>(row: &[T], n: usize) -> &[T] {
-    if n < row.len() { &row[0..n] } else { row }
+    row.get(..n).unwrap_or(row)
 }

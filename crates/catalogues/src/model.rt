@@ -1,12 +1,15 @@
 // What a catalogue of names should answer, by the runs that stand alone: a linear search by equality.
-ghost use Rattle.std.specs.Prelude.{◌≡◌, ℕ, ◌<◌, length, min, MatchOption};
+ghost use Rattle.std.specs.Prelude.{◌≡◌, ℕ, ◌<◌, length, min, IfNone, IfSome};
 ghost use Rattle.catalogue.specs.Classes.{Begun, ClassOf, FirstSame, entry};
 ghost use Rattle.catalogue.specs.Kinds.{FirstOf, SoundBy};
 ghost use Rattle.catalogue.specs.Model.{total};
 ghost use Rattle.catalogues.specs.Naive.{CallAnswered, CutAnswered, EnterAnswered, FindAnswered, Modest, names, runs_of};
 ghost use Rattle.kinds.specs.Names.{meets_name};
+ghost use Rattle.kinds.specs.Numbers.{name_number};
 
 use crate::words::{Answer, Call};
+use catalogue::fault::Numbered;
+use kinds::names::NameFault;
 
 /// The runs that stand, and how many slots and units there are.
 #[derive(Drop)]
@@ -33,7 +36,7 @@ impl Model {
     {
         let number = self.runs.len();
         if let Some(met) = number_met(run) {
-            return Answer::Refused(met);
+            return Answer::Refused(met.number());
         }
         if number >= self.slots {
             return Answer::Refused(20);
@@ -51,12 +54,9 @@ impl Model {
         ensures { FindAnswered self.now run.now result }
     {
         if let Some(met) = number_met(run) {
-            return Answer::Refused(met);
+            return Answer::Refused(met.number());
         }
-        match self.first(run) {
-            Some(number) => Answer::Found(number),
-            None => Answer::NotFound,
-        }
+        self.first(run).map_or(Answer::NotFound, Answer::Found)
     }
 
     fn cut(&mut self, keep: usize) -> Answer
@@ -74,16 +74,14 @@ impl Model {
         ensures entered { let rs = runs_of self.now in (i : ℕ) → i < length rs → entry rs i ≡ run.now → ClassOf names rs i result }
         ensures absent { FirstSame names (runs_of self.now) run.now None → result ≡ 0 }
     {
-        match self.first(run) {
-            Some(first) => self.begun(first),
-            None => 0,
-        }
+        self.first(run).map_or(0, |first| self.begun(first))
     }
 
     // How many of the first n entries begin a class.
     pub fn begun(&self, n: usize) -> usize
         ensures { let rs = runs_of self.now in Begun names rs (min n (length rs)) result }
     {
+        // Kept: tried `filter` and `count`; what `first` answers is a relation, and a chain is counted by a function.
         let mut begun = 0usize;
         for (i, run) in self.runs.iter().enumerate() {
             if i < n && self.first(*run) == Some(i) {
@@ -97,6 +95,7 @@ impl Model {
     fn first(&self, run: &[u8]) -> Option<usize>
         ensures { FirstSame names (runs_of self.now) run.now result }
     {
+        // Kept: tried `position`, and the check did not find that what it answers is the first equal run.
         for (i, stored) in self.runs.iter().enumerate() {
             if *stored == run {
                 return Some(i);
@@ -109,6 +108,7 @@ impl Model {
     fn used(&self) -> usize
         ensures { result ≡ min (total (runs_of self.now)) usize.MAX }
     {
+        // Kept: tried `fold`, and the check did not find that what it answers is the capped sum.
         let mut used = 0usize;
         for run in self.runs.iter() {
             used = used.saturating_add(run.len());
@@ -117,15 +117,17 @@ impl Model {
     }
 }
 
-/// The first number of the names' input list that the run meets, or none.
-pub fn number_met(run: &[u8]) -> Option<u8>
-    ensures { MatchOption result (SoundBy meets_name run.now) (λ n. FirstOf meets_name run.now n) }
+/// The fault of the first number of the names' input list that the run meets, or none.
+// Kept: no call of the kind's own intake, since the model is to share no code with what is held against it.
+pub fn number_met(run: &[u8]) -> Option<NameFault>
+    ensures sound { IfNone result (SoundBy meets_name run.now) }
+    ensures first { IfSome result (λ e. FirstOf meets_name run.now (name_number e)) }
 {
     if run.len() > 255 {
-        return Some(1);
+        return Some(NameFault::TooLong);
     }
-    if run.len() == 0 {
-        return Some(2);
+    if run.is_empty() {
+        return Some(NameFault::Empty);
     }
     None
 }

@@ -9,14 +9,6 @@ use std::alloc::Global;
 use std::process::Abort;
 use std::test::Fail;
 
-pub(crate) const CLEAN: Slot = Slot {
-    start: 0,
-    len: 0,
-    hash: 0,
-    class: 0,
-    begun: 0,
-};
-
 pub(crate) fn plays<H: Hasher>(rt: &impl Abort, store: &mut Store<H>, steps: &[(Call, Answer)]) {
     for (call, right) in steps {
         assert_eq!(rt; store.answer(*call), *right);
@@ -31,9 +23,9 @@ pub(crate) fn both(
     units: usize,
     steps: &[(Call, Answer)],
 ) -> Result<(), Fail> {
-    let mut rotating = Store::<Rotating>::new(heap, slots, units, CLEAN, 0)?;
+    let mut rotating = Store::<Rotating>::new(heap, slots, units, Slot::default(), 0)?;
     plays(rt, &mut rotating, steps);
-    let mut fnv1a = Store::<Fnv1a>::new(heap, slots, units, CLEAN, 0)?;
+    let mut fnv1a = Store::<Fnv1a>::new(heap, slots, units, Slot::default(), 0)?;
     plays(rt, &mut fnv1a, steps);
     Ok(())
 }

@@ -1,8 +1,9 @@
 // The limits, cuts, and what is asked of entries.
 use crate::memory::Store;
 use crate::picks::{longest, too_long};
-use crate::scripts::{CLEAN, both, plays};
+use crate::scripts::{both, plays};
 use crate::words::{Answer, Call};
+use catalogue::record::Slot;
 use hashing::fnv1a::Fnv1a;
 use hashing::hasher::Hasher;
 use hashing::rotating::Rotating;
@@ -80,7 +81,7 @@ fn turn(i: usize) -> &'static [u8] {
 }
 
 fn most_entries<H: Hasher>(rt: &impl Abort, heap: Global) -> Result<(), Fail> {
-    let mut store = Store::<H>::new(heap, 65540, 65540, CLEAN, 0)?;
+    let mut store = Store::<H>::new(heap, 65540, 65540, Slot::default(), 0)?;
     for i in 0..65536 {
         assert_eq!(rt; store.enter(turn(i)), Answer::Entered(i, i % 3));
     }

@@ -19,6 +19,7 @@ pub enum Call {
 pub enum Answer {
     // the number and the class
     Entered(usize, usize),
+    // Kept: two variants, and no Option inside one, since the tests' tables of steps read so.
     Found(usize),
     NotFound,
     Cut,
@@ -29,5 +30,6 @@ pub enum Answer {
     Other,
     // the fault's number, or 0, where the class, the hash and the run are asked for
     Told(u8, u8, u8),
+    // Kept: numbers, since they are what the tests hold against those that are listed.
     Refused(u8),
 }

@@ -8,17 +8,18 @@ use Rattle.catalogue.specs.Model.{Event, entering}
 use Rattle.catalogue.specs.Promise.{Reached}
 use Rattle.catalogue.specs.States.{State}
 use Rattle.tables.proofs.Taken.{take-item}
+use Rattle.kinds.specs.declared.rules.RuleFault.{RuleFault}
 use Rattle.tables.specs.declared.line.Entry.{Entry}
 use Rattle.classes.specs.Tables.{enterings}
 
-last-entering : (h : List (Event ℕ)) (es : List Entry) (e : Entry) (ls : List (Result Entered Fault)) (a : Result Entered Fault) → length ls ≡ length es
+last-entering : (h : List (Event ℕ RuleFault)) (es : List Entry) (e : Entry) (ls : List (Result Entered (Fault RuleFault))) (a : Result Entered (Fault RuleFault)) → length ls ≡ length es
     → enterings h (es ++ (e ∷ [])) (ls ++ (a ∷ [])) ≡ entering (vec_items e.words) a ∷ enterings h es ls
 last-entering h [] e [] a q = refl
 last-entering h [] e (l ∷ ls) a q = absurd (omega (arith, q))
 last-entering h (f ∷ es) e [] a q = absurd (omega (arith, q))
 last-entering h (f ∷ es) e (l ∷ ls) a q = last-entering (entering (vec_items f.words) l ∷ h) es e ls a (omega (arith, q))
 
-pub entered-more : (k : Sense ℕ) (es : List Entry) (i : ℕ) (e : Entry) (words : List ℕ) (ls ms : List (Result Entered Fault)) (a : Result Entered Fault) (s t : State ℕ)
+pub entered-more : (k : Sense ℕ RuleFault) (es : List Entry) (i : ℕ) (e : Entry) (words : List ℕ) (ls ms : List (Result Entered (Fault RuleFault))) (a : Result Entered (Fault RuleFault)) (s t : State ℕ)
     → i < length es → e ≡ get_or es i e → words ≡ vec_items e.words → length ls ≡ i → ms ≡ ls ++ (a ∷ [])
     → Reached k (enterings [] (take i es) ls) s → EnterDone k s words a t
     → Reached k (enterings [] (take (i + 1) es) ms) t

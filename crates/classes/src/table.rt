@@ -1,14 +1,14 @@
 // Enters each rule of a table into a catalogue.
 ghost use Rattle.catalogue.specs.States.{nothing, numbers_of, state};
 ghost use Rattle.classes.specs.Tables.{Classed, EntersAll};
-ghost use Rattle.hashing.specs.Words.{of_words};
+ghost use Rattle.hashing.specs.Words.{hash_by};
 ghost use Rattle.std.specs.Prelude.{◌≡◌, IfOk};
 
 use catalogue::calls::enter;
 use catalogue::fault::Fault;
 use catalogue::record::{Catalogue, Entered, Slot};
 use hashing::hasher::Hasher;
-use kinds::rules::{Rules, class_count};
+use kinds::rules::{RuleFault, Rules, class_count};
 use std::alloc::{AllocError, Global};
 use tables::line::Entry;
 
@@ -16,7 +16,7 @@ use tables::line::Entry;
 #[derive(Drop)]
 pub struct ClassedTable<H> {
     pub cat: Catalogue<H>,
-    pub answers: Vec<Result<Entered, Fault>>,
+    pub answers: Vec<Result<Entered, Fault<RuleFault>>>,
     pub classes: usize,
 }
 
@@ -27,7 +27,7 @@ pub fn class_table<H: Hasher>(
     slots: &mut [Slot],
     units: &mut [u32],
 ) -> Result<ClassedTable<H>, AllocError>
-    ensures { IfOk result (λ t. Classed (of_words H.begun H.fed H.ended) entries.now t.answers.items (state t.cat slots.new units.new) t.classes) }
+    ensures { IfOk result (λ t. Classed (hash_by H.Hasher) entries.now t.answers.items (state t.cat slots.new units.new) t.classes) }
 {
     let mut cat = Catalogue::new();
     let answers = enter_rules(heap, &mut cat, entries, slots, units)?;
@@ -46,11 +46,12 @@ fn enter_rules<H: Hasher>(
     entries: &[Entry],
     slots: &mut [Slot],
     units: &mut [u32],
-) -> Result<Vec<Result<Entered, Fault>>, AllocError>
+) -> Result<Vec<Result<Entered, Fault<RuleFault>>>, AllocError>
     requires { numbers_of cat.old ≡ nothing }
-    ensures { IfOk result (λ answers. EntersAll (of_words H.begun H.fed H.ended) entries.now answers.items (state cat.new slots.new units.new)) }
+    ensures { IfOk result (λ answers. EntersAll (hash_by H.Hasher) entries.now answers.items (state cat.new slots.new units.new)) }
 {
     let mut answers = Vec::new(heap);
+    // Kept: tried `map` and `collect`; each enter changes the catalogue, and nothing is known of what a closure has changed.
     for entry in entries {
         let answer = enter(cat, &Rules, slots, units, entry.words.as_slice());
         answers.push(answer)?;

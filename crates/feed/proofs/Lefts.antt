@@ -1,48 +1,62 @@
 -- The children of a node that are left, one after the other.
-use Rattle.std.proofs.Common.{◌≡◌, ℕ, suc, ◌+◌, ◌-◌, ◌<◌, ◌≤◌, List, [], ◌++◌, get_or, sym, refl, ap, subst, arith}
-use Rattle.sameness.specs.declared.kind.Kind.{Kind}
+use Rattle.std.proofs.Common.{◌≡◌, ℕ, ◌+◌, ◌-◌, ◌<◌, ◌≤◌, List, [], ◌++◌, length, reverse, get_or, Some, None, Option, sym, refl, ap, ◌∙◌, subst, ⊎_elim, arith}
+use Rattle.std.specs.List.{slice_get, flat_map}
+use Rattle.std.proofs.lemmas.List.{at_drop_more, at_drop_all, get_or-reverse, length-reverse}
+use Rattle.std.proofs.lemmas.Bool.{cases_lt}
+use Rattle.std.proofs.lemmas.Option.{slice_get_within, get_or_from_slice_get, slice_get-get_or}
+use Rattle.rule.specs.declared.nodes.Node.{Node}
 use Rattle.sameness.specs.Reducing.{NodeReduced}
+use Rattle.feed.specs.declared.operands.Operands.{Operands}
 use Rattle.feed.specs.declared.way.Way.{Way}
 use Rattle.feed.specs.declared.way.Way.TheVariants.{Direct, Exchanged, ByHash}
-use Rattle.feed.specs.Ways.{way_of, walked_by, place_by, hashes_by}
-use Rattle.feed.specs.Pending.{node_feed, next_feed, left}
-use Rattle.feed.proofs.Orders.{facts_at}
+use Rattle.feed.specs.Ways.{way_of, walked_by, walked, hashes_by}
+use Rattle.feed.specs.Pending.{node_feed, left}
 
-pub no-hashes : (y : Way) (s l : ℕ) → (y ≡ ByHash → ⊥) → hashes_by y s l ≡ []
-no-hashes Direct s l n = refl
-no-hashes Exchanged s l n = refl
-no-hashes ByHash s l n = absurd (n refl)
+pub no_hashes : (y : Way) (o : Operands) → (y ≡ ByHash → ⊥) → hashes_by y o ≡ []
+no_hashes Direct o n = refl
+no_hashes Exchanged o n = refl
+no_hashes ByHash o n = absurd (n refl)
 
-pub walked-kids : (y : Way) (n q : ℕ) → q < walked_by y n → q < n
-walked-kids Direct n q h = h
-walked-kids Exchanged n q h = h
-walked-kids ByHash n q h = absurd (omega arith)
+-- what the code takes for the next child
+pub walked-next : (n : Node) (q : ℕ) {x : Option ℕ} {y : Way} → y ≡ way_of n → x ≡ slice_get (walked_by y n.kids.now) q → x ≡ slice_get (walked n) q
+unfolding walked
+walked-next n q e h = h ∙ ap (λ z. slice_get (walked_by z n.kids.now) q) e
 
 ---- what is left
 
-module _ (f : List ℕ → ℕ) (ws : List ℕ) (k : Kind) (q : ℕ) where
-  pub left-more : q < walked_by (way_of k) k.kids → left f ws k q ≡ node_feed f ws (get_or ws (place_by (way_of k) k.first q) 0) ++ left f ws k (q + 1)
-  unfolding left next_feed
-  left-more h =
-      let e : walked_by (way_of k) k.kids - q ≡ suc (walked_by (way_of k) k.kids - (q + 1)) = omega arith in
-      ap (next_feed f ws (way_of k) k.first q) e
+module _ (f : List ℕ → ℕ) (ws : List ℕ) (n : Node) (q : ℕ) where
+  pub left-more : (x : ℕ) → slice_get (walked n) q ≡ Some x → left f ws n q ≡ node_feed f ws x ++ left f ws n (q + 1)
+  unfolding left
+  left-more x e =
+      at_drop_more (flat_map (node_feed f ws)) (walked n) q 0 (slice_get_within (walked n) q x e)
+      ∙ ap (λ y. node_feed f ws y ++ left f ws n (q + 1)) (get_or_from_slice_get (walked n) q x 0 e)
 
-  pub left-none : walked_by (way_of k) k.kids ≤ q → left f ws k q ≡ []
-  unfolding left next_feed
-  left-none h =
-      let e : walked_by (way_of k) k.kids - q ≡ 0 = omega arith in
-      ap (next_feed f ws (way_of k) k.first q) e
+  pub left-none : slice_get (walked n) q ≡ None → left f ws n q ≡ []
+  unfolding left
+  left-none e =
+      at_drop_all (flat_map (node_feed f ws)) (walked n) q
+      (⊎_elim (λ (h : q < length (walked n)). let g = slice_get-get_or (walked n) q 0 h in absurd (cc)) (λ h. h) (cases_lt q (length (walked n))))
 
----- where a child's number stands, and that it is below its node's
+---- a child's number is below its node's
 
-place_at : (k : Kind) (q : ℕ) (y : Way) → way_of k ≡ y → q < walked_by y k.kids → (m : ℕ) × (m < k.kids) × (place_by y k.first q ≡ k.first + m)
-place_at k q Direct e h = (q, h, refl)
-place_at k q Exchanged e h = (1 - q, omega (arith, (facts_at k Exchanged e).0), omega (arith, (facts_at k Exchanged e).0))
-place_at k q ByHash e h = absurd (omega arith)
+-- which of all the children it is
+child_at : (y : Way) (ns : List ℕ) (q x : ℕ) → slice_get (walked_by y ns) q ≡ Some x → (m : ℕ) × (m < length ns) × (get_or ns m 0 ≡ x)
+child_at Direct ns q x e = (q, slice_get_within ns q x e, get_or_from_slice_get ns q x 0 e)
+child_at Exchanged ns q x e =
+    let l : q < length ns = omega (arith, slice_get_within (reverse ns) q x e, length-reverse ns) in
+    (length ns - 1 - q, omega arith, sym (get_or-reverse ns q 0 l) ∙ get_or_from_slice_get (reverse ns) q x 0 e)
+child_at ByHash ns q x e = absurd (cc)
 
-module _ (ws : List ℕ) (i : ℕ) (k : Kind) (r : NodeReduced ws i k) (q : ℕ) (h : q < walked_by (way_of k) k.kids) where
-  pub child-below : get_or ws (place_by (way_of k) k.first q) 0 < i
-  child-below = let p = place_at k q (way_of k) refl h in subst (λ z. get_or ws z 0 < i) (sym p.2) (r.below p.0 p.1)
+walked-few : (y : Way) (ns : List ℕ) → length (walked_by y ns) ≤ length ns
+walked-few Direct ns = omega arith
+walked-few Exchanged ns = omega (arith, length-reverse ns)
+walked-few ByHash ns = omega arith
 
-pub place-within : (k : Kind) (q : ℕ) → q < walked_by (way_of k) k.kids → place_by (way_of k) k.first q < k.first + k.kids
-place-within k q h = let p = place_at k q (way_of k) refl h in omega (arith, p.1, p.2)
+module _ (ws : List ℕ) (i : ℕ) (n : Node) (r : NodeReduced ws i n) (q x : ℕ) (e : slice_get (walked n) q ≡ Some x) where
+  pub child-below : x < i
+  unfolding walked
+  child-below = let p = child_at (way_of n) n.kids.now q x e in subst (λ z. z < i) p.2 (r.below p.0 p.1)
+
+  pub few-done : q < length n.kids.now
+  unfolding walked
+  few-done = omega (arith, slice_get_within (walked n) q x e, walked-few (way_of n) n.kids.now)

@@ -1,67 +1,116 @@
 -- What a node feeds by the way of its children: its own words, and then what its children feed.
-use Rattle.std.proofs.Common.{◌≡◌, ℕ, zero, suc, ◌+◌, ◌-◌, true, false, ◌&&◌, ◌||◌, eqb, ◌⊎◌, List, [], ◌∷◌, ◌++◌, length, get_or, sym, refl, ap, ◌∙◌, subst, ap₂, inl, inr, ⊎_elim, append-nil, arith}
-use Rattle.std.proofs.lemmas.Bool.{eqb-true, eqb-false, and_parts, and_cases, cond-true, cond-false, cond_both}
-use Rattle.rule.specs.Trees.{Forest, node, stub, kids_of, trees_of, tree_at}
-use Rattle.sameness.specs.declared.kind.Kind.{Kind}
-use Rattle.sameness.specs.Reduction.{reduce, reduce_all}
+use Rattle.std.proofs.Common.{◌≡◌, ℕ, false, ◌&&◌, eqb, ◌⊎◌, Some, None, Option, List, [], ◌∷◌, ◌++◌, length, map, get_or, sym, refl, ap, ◌∙◌, subst, ap₂, inl, inr, ⊎_elim, arith}
+use Rattle.std.specs.List.{flat_map}
+use Rattle.std.proofs.lemmas.List.{length-map}
+use Rattle.std.proofs.lemmas.Bool.{eqb-true, eqb-false, ne_eqb, and_parts, and_cases, cond-false, cond_both}
+use Rattle.rule.specs.declared.comparison.Comparison.{Comparison}
+use Rattle.rule.specs.declared.comparison.Comparison.TheVariants.{Eq, Lt, Le, Ne, Ge, Gt}
+use Rattle.rule.specs.declared.nodes.Node.{Node}
+use Rattle.rule.specs.Comparisons.{comparison_number, comparison_of}
+use Rattle.sameness.specs.Reduction.{reduce_all}
 use Rattle.sameness.specs.Reducing.{NodeReduced}
-use Rattle.sameness.specs.Sameness.{pair, bare_v, bare_w}
-use Rattle.sameness.specs.Walking.{tree_in}
-use Rattle.sameness.proofs.KindTrees.{kids-two}
+use Rattle.sameness.specs.Sameness.{bare_v, bare_w}
+use Rattle.sameness.specs.Walking.{trees_at, kids_in, tree_in}
+use Rattle.feed.specs.declared.operands.Operands.{Operands}
 use Rattle.feed.specs.declared.way.Way.{Way}
 use Rattle.feed.specs.declared.way.Way.TheVariants.{Direct, Exchanged, ByHash}
-use Rattle.feed.specs.Feed.{Order, ordered, exchanged, unordered, order, fed_v, joined, turned, hashes, in_order, arranged, feed, feeds, feed_all}
-use Rattle.feed.specs.Ways.{way_of, walked_by, hashes_by, head_of}
-use Rattle.feed.specs.Pending.{node_feed, node_hash, next_feed, left, OperandHashes}
-use Rattle.feed.proofs.Steps.{feeds-kids, feed_all-nil, feed_all-cons, feed-ordered, feed-exchanged, feed-unordered}
+use Rattle.feed.specs.Feed.{Order, ordered, exchanged, unordered, order, fed_v, joined, turned, hashes, in_order, arranged, feed, feeds}
+use Rattle.feed.specs.Ways.{way_by, way_at, fed_as, way_of, walked_by, walked, hashes_by, head_of}
+use Rattle.feed.specs.Pending.{node_feed, node_hash, left, operands_of}
+use Rattle.feed.proofs.Comparisons.{Other, by_comparison}
 
 ---- the way of a node and the order of its children
 
-order-unordered : (v : ℕ) → (eqb v 12 || eqb v 15) ≡ true → order 14 (bare_v 14 v) ≡ unordered
-unfolding order bare_v
-order-unordered v e = cond-true _ _ _ e
+-- the order of a way's children
+abbrev order_by : Way → Order
+order_by Direct = ordered
+order_by Exchanged = exchanged
+order_by ByHash = unordered
 
-order-exchanged : (v : ℕ) → (eqb v 12 || eqb v 15) ≡ false → (eqb v 13 || eqb v 14) ≡ true → order 14 (bare_v 14 v) ≡ exchanged
+order-comparison : (k : Comparison) → order 14 (bare_v 14 (comparison_number k)) ≡ order_by (way_by k)
 unfolding order bare_v
-order-exchanged v e g = cond-false _ _ _ e ∙ cond-true _ _ _ g
+order-comparison Eq = refl
+order-comparison Lt = refl
+order-comparison Le = refl
+order-comparison Ne = refl
+order-comparison Ge = refl
+order-comparison Gt = refl
 
-order-ordered : (v : ℕ) → (eqb v 12 || eqb v 15) ≡ false → (eqb v 13 || eqb v 14) ≡ false → order 14 (bare_v 14 v) ≡ ordered
+order-none : (v : ℕ) → Other v → order 14 (bare_v 14 v) ≡ ordered
 unfolding order bare_v
-order-ordered v e g = cond-false _ _ _ e ∙ cond-false _ _ _ g
+order-none v n = rw (ne_eqb v 12 (n Eq), ne_eqb v 13 (n Lt), ne_eqb v 14 (n Le), ne_eqb v 15 (n Ne)) refl
+
+order-binary : (v : ℕ) → order 14 (bare_v 14 v) ≡ order_by (way_at (comparison_of v))
+order-binary v = by_comparison (λ z o. order 14 (bare_v 14 z) ≡ order_by (way_at o)) order-comparison order-none v
+
+-- what the code takes for the way of a binary expression of two operands
+pub binary_way : (n : Node) {o : Option Comparison} → n.code ≡ 14 → length n.kids.now ≡ 2 → o ≡ comparison_of n.v → way_at o ≡ way_of n
+unfolding way_of
+binary_way n c l e = rw (c, l, e) refl
+
+-- what the code takes for v of a binary expression
+abbrev fed_at : ℕ → Option Comparison → ℕ
+fed_at v None = v
+fed_at v (Some k) = comparison_number (fed_as k)
+
+fed-comparison : (k : Comparison) → fed_at (comparison_number k) (Some k) ≡ fed_v 14 (comparison_number k)
+unfolding fed_v
+fed-comparison Eq = refl
+fed-comparison Lt = refl
+fed-comparison Le = refl
+fed-comparison Ne = refl
+fed-comparison Ge = refl
+fed-comparison Gt = refl
+
+fed-none : (v : ℕ) → Other v → v ≡ fed_v 14 v
+unfolding fed_v
+fed-none v n = rw (ne_eqb v 13 (n Lt), ne_eqb v 14 (n Le)) refl
+
+pub binary_v : (c v : ℕ) {o : Option Comparison} → c ≡ 14 → o ≡ comparison_of v → fed_at v o ≡ fed_v c v
+binary_v c v e h = rw (e, h) (by_comparison (λ z o. fed_at z o ≡ fed_v 14 z) fed-comparison fed-none v)
 
 order_other : (c v : ℕ) → eqb c 14 ≡ false → order c v ≡ ordered
 unfolding order
 order_other c v e = cond-false _ _ _ e
 
-abbrev pub order_in : Kind → Order
-order_in k = order k.code (bare_v k.code k.v)
+abbrev order_in : Node → Order
+order_in n = order n.code (bare_v n.code n.v)
 
-abbrev pub WayFacts : Kind → Way → Type 0
-WayFacts k Direct = (k.kids ≡ 2 → ⊥) ⊎ (order_in k ≡ ordered)
-WayFacts k Exchanged = (k.kids ≡ 2) × (order_in k ≡ exchanged)
-WayFacts k ByHash = (k.kids ≡ 2) × (order_in k ≡ unordered)
+-- other than two children are fed as they stand, whatever their order
+abbrev pub WayFacts : Node → Way → Type 0
+WayFacts n Direct = (length n.kids.now ≡ 2 → ⊥) ⊎ (order_in n ≡ ordered)
+WayFacts n Exchanged = (length n.kids.now ≡ 2) × (order_in n ≡ exchanged)
+WayFacts n ByHash = (length n.kids.now ≡ 2) × (order_in n ≡ unordered)
 
-at-14 : (k : Kind) (o : Order) → k.code ≡ 14 → order 14 (bare_v 14 k.v) ≡ o → order_in k ≡ o
-at-14 k o e g = ap (λ c. order c (bare_v c k.v)) e ∙ g
+two-facts : (n : Node) (y : Way) → length n.kids.now ≡ 2 → order_in n ≡ order_by y → WayFacts n y
+two-facts n Direct l e = inr e
+two-facts n Exchanged l e = (l, e)
+two-facts n ByHash l e = (l, e)
 
-way-facts : (k : Kind) → WayFacts k (way_of k)
+way-facts : (n : Node) → WayFacts n (way_of n)
 unfolding way_of
-way-facts k =
-    cond_both (eqb k.code 14 && eqb k.kids 2) _ Direct (WayFacts k)
+way-facts n =
+    cond_both (eqb n.code 14 && eqb (length n.kids.now) 2) _ Direct (WayFacts n)
     (λ e.
     let p = and_parts _ _ e in
-    let c = eqb-true _ _ p.0 in
-    let n = eqb-true _ _ p.1 in
-    cond_both (eqb k.v 12 || eqb k.v 15) ByHash _ (WayFacts k) (λ g. (n, at-14 k _ c (order-unordered _ g)))
-    (λ g. cond_both (eqb k.v 13 || eqb k.v 14) Exchanged Direct (WayFacts k) (λ h. (n, at-14 k _ c (order-exchanged _ g h))) (λ h. inr (at-14 k _ c (order-ordered _ g h)))))
+    two-facts n _ (eqb-true _ _ p.1) (ap (λ c. order c (bare_v c n.v)) (eqb-true _ _ p.0) ∙ order-binary n.v))
     (λ e. ⊎_elim (λ g. inr (order_other _ _ g)) (λ g. inl (eqb-false _ _ g)) (and_cases _ _ e))
 
-pub facts_at : (k : Kind) (y : Way) → way_of k ≡ y → WayFacts k y
-facts_at k y e = subst (WayFacts k) e (way-facts k)
+pub facts_at : (n : Node) (y : Way) → way_of n ≡ y → WayFacts n y
+facts_at n y e = subst (WayFacts n) e (way-facts n)
 
----- children that are fed as they stand
+---- the children of a node, in their order
 
--- other than two are
+kids-feed : (f : List ℕ → ℕ) (ws xs : List ℕ) → feeds f (reduce_all (trees_at ws xs)) ≡ map (node_feed f ws) xs
+unfolding feeds reduce_all trees_at node_feed
+kids-feed f ws [] = refl
+kids-feed f ws (x ∷ xs) = ap (λ ls. node_feed f ws x ∷ ls) (kids-feed f ws xs)
+
+joined-map : (g : ℕ → List ℕ) (xs : List ℕ) → joined (map g xs) ≡ flat_map g xs
+unfolding joined
+joined-map g [] = refl
+joined-map g (x ∷ xs) = ap (λ ls. g x ++ ls) (joined-map g xs)
+
 in-order-other : (f : List ℕ → ℕ) (o : Order) (ls : List (List ℕ)) → (length ls ≡ 2 → ⊥) → in_order f o ls ≡ joined ls
 unfolding in_order turned hashes joined
 in-order-other f ordered ls n = refl
@@ -74,80 +123,52 @@ in-order-other f unordered (a ∷ []) n = refl
 in-order-other f unordered (a ∷ (b ∷ [])) n = absurd (n refl)
 in-order-other f unordered (a ∷ (b ∷ (c ∷ ls))) n = refl
 
-feed-direct : (f : List ℕ → ℕ) (c v w : ℕ) (ts : Forest) → (length (feeds f ts) ≡ 2 → ⊥) ⊎ (order c (bare_v c v) ≡ ordered)
-    → feed f (node c v w ts) ≡ c ∷ (fed_v c (bare_v c v) ∷ (bare_w c v w ∷ (length (feeds f ts) ∷ feed_all f ts)))
-unfolding feed arranged feed_all
-feed-direct f c v w ts h =
-    ⊎_elim (λ (n : length (feeds f ts) ≡ 2 → ⊥). ap (λ l. c ∷ (fed_v c (bare_v c v) ∷ (bare_w c v w ∷ (length (feeds f ts) ∷ l)))) (in-order-other f (order c (bare_v c v)) (feeds f ts) n))
-    (λ (e : order c (bare_v c v) ≡ ordered). feed-ordered f c v w ts e) h
-
-kids-feed : (f : List ℕ → ℕ) (ws : List ℕ) (p q n : ℕ) → feed_all f (reduce_all (kids_of (trees_of ws) ws (p + q) n)) ≡ next_feed f ws Direct p q n
-unfolding reduce_all kids_of next_feed node_feed tree_at
-kids-feed f ws p q zero = feed_all-nil f
-kids-feed f ws p q (suc n) =
-    let e : p + q + 1 ≡ p + (q + 1) = omega arith in
-    feed_all-cons f _ _ ∙ ap (λ (l : List ℕ). feed f (reduce (get_or (trees_of ws) (get_or ws (p + q) 0) stub)) ++ l) (ap (λ z. feed_all f (reduce_all (kids_of (trees_of ws) ws z n))) e ∙ kids-feed f ws p (q + 1) n)
+two_numbers : (xs : List ℕ) → length xs ≡ 2 → xs ≡ get_or xs 0 0 ∷ (get_or xs 1 0 ∷ [])
+two_numbers [] e = absurd (omega arith)
+two_numbers (a ∷ []) e = absurd (omega arith)
+two_numbers (a ∷ (b ∷ [])) e = refl
+two_numbers (a ∷ (b ∷ (c ∷ xs))) e = absurd (omega arith)
 
 ---- a node by its way
 
-module _ (f : List ℕ → ℕ) (ws : List ℕ) (k : Kind) (s l : ℕ) where
-  -- what comes behind the first four words
-  rest_by : Way → List ℕ
-  rest_by y = hashes_by y s l ++ next_feed f ws y k.first 0 (walked_by y k.kids - 0)
+module _ (f : List ℕ → ℕ) (ws : List ℕ) (n : Node) (o : Operands) where
+  -- what the children feed in an order, and by a way
+  abbrev fed_in : Order → List ℕ → List ℕ
+  fed_in r xs = in_order f r (map (node_feed f ws) xs)
 
-  -- the first four, where there are n children, and the words r behind them
-  four_words : ℕ → List ℕ → List ℕ
-  four_words n r = k.code ∷ (fed_v k.code (bare_v k.code k.v) ∷ (bare_w k.code k.v k.w ∷ (n ∷ r)))
+  abbrev fed_by : Way → List ℕ → List ℕ
+  fed_by y xs = hashes_by y o ++ flat_map (node_feed f ws) (walked_by y xs)
 
-  head-left : (y : Way) → way_of k ≡ y → four_words k.kids (rest_by y) ≡ head_of k s l ++ left f ws k 0
-  unfolding head_of left four_words rest_by
-  head-left y e = ap (λ z. four_words k.kids (rest_by z)) (sym e)
+  direct-other : (r : Order) (xs : List ℕ) → (length xs ≡ 2 → ⊥) → fed_in r xs ≡ fed_by Direct xs
+  direct-other r xs m = in-order-other f r _ (λ e. m (sym (length-map xs (node_feed f ws)) ∙ e)) ∙ joined-map _ xs
 
-  direct-feed : WayFacts k Direct → feed f (tree_in ws k) ≡ four_words k.kids (rest_by Direct)
-  unfolding four_words rest_by
-  direct-feed h =
-      let ts = reduce_all (kids_of (trees_of ws) ws k.first k.kids) in
-      let n : length (feeds f ts) ≡ k.kids = feeds-kids f (trees_of ws) ws k.first k.kids in
-      let e : k.first ≡ k.first + 0 = omega arith in
-      let z : k.kids ≡ k.kids - 0 = omega arith in
-      let g : feed_all f ts ≡ next_feed f ws Direct k.first 0 (k.kids - 0) =
-      ap (λ p. feed_all f (reduce_all (kids_of (trees_of ws) ws p k.kids))) e ∙ kids-feed f ws k.first 0 k.kids ∙ ap (next_feed f ws Direct k.first 0) z in
-      feed-direct f k.code k.v k.w ts (⊎_elim (λ (m : k.kids ≡ 2 → ⊥). inl (λ o. m (sym n ∙ o))) inr h)
-      ∙ ap₂ four_words n g
+  direct-ordered : (xs : List ℕ) → fed_in ordered xs ≡ fed_by Direct xs
+  unfolding in_order
+  direct-ordered xs = joined-map _ xs
 
-  -- two operands
-  two_of : k.kids ≡ 2 → tree_in ws k ≡ node k.code k.v k.w (pair (reduce (tree_at ws (get_or ws k.first 0))) (reduce (tree_at ws (get_or ws (k.first + 1) 0))))
-  unfolding reduce_all
-  two_of n = ap (λ ts. node k.code k.v k.w (reduce_all ts)) (kids-two ws k.first k.kids n)
+  two-exchanged : (a b : ℕ) → fed_in exchanged (a ∷ (b ∷ [])) ≡ fed_by Exchanged (a ∷ (b ∷ []))
+  unfolding in_order turned joined
+  two-exchanged a b = refl
 
-  exchanged-feed : WayFacts k Exchanged → feed f (tree_in ws k) ≡ four_words k.kids (rest_by Exchanged)
-  unfolding four_words rest_by next_feed node_feed
-  exchanged-feed h =
-      let z : k.kids - 0 ≡ 2 = omega (arith, h.0) in
-      let a : k.first + 1 ≡ k.first + 1 - 0 = omega arith in
-      let b : k.first ≡ k.first + 1 - 1 = omega arith in
-      let x : List ℕ = feed f (reduce (tree_at ws (get_or ws k.first 0))) in
-      let y : List ℕ = feed f (reduce (tree_at ws (get_or ws (k.first + 1) 0))) in
-      let g : y ++ x ≡ next_feed f ws Exchanged k.first 0 (k.kids - 0) =
-      ap₂ (λ (u v : List ℕ). u ++ v) (ap (λ p. feed f (reduce (tree_at ws (get_or ws p 0)))) a)
-      (ap (λ p. feed f (reduce (tree_at ws (get_or ws p 0)))) b ∙ sym (append-nil _))
-      ∙ ap (next_feed f ws Exchanged k.first 0) (sym z) in
-      ap (feed f) (two_of h.0) ∙ feed-exchanged f k.code k.v k.w _ _ h.1
-      ∙ ap₂ four_words (sym h.0) g
+  two-unordered : (a b : ℕ) → n.kids.now ≡ a ∷ (b ∷ []) → o ≡ operands_of f ws n → fed_in unordered (a ∷ (b ∷ [])) ≡ fed_by ByHash (a ∷ (b ∷ []))
+  unfolding in_order hashes operands_of node_hash
+  two-unordered a b e g = rw (g, e) refl
 
-  hashed-feed : WayFacts k ByHash → OperandHashes f ws k s l → feed f (tree_in ws k) ≡ four_words k.kids (rest_by ByHash)
-  unfolding four_words rest_by next_feed node_feed node_hash
-  hashed-feed h o =
-      ap (feed f) (two_of h.0) ∙ feed-unordered f k.code k.v k.w _ _ h.1
-      ∙ ap₂ four_words (sym h.0)
-      (ap₂ (λ (m n : ℕ). m ∷ (n ∷ [])) (sym o.smaller) (sym o.larger))
+  way-order : (y : Way) → WayFacts n y → (y ≡ ByHash → o ≡ operands_of f ws n) → fed_in (order_in n) n.kids.now ≡ fed_by y n.kids.now
+  way-order Direct w g =
+      ⊎_elim (λ (m : length n.kids.now ≡ 2 → ⊥). direct-other (order_in n) n.kids.now m) (λ (e : order_in n ≡ ordered). ap (λ r. fed_in r n.kids.now) e ∙ direct-ordered n.kids.now) w
+  way-order Exchanged w g = let e = two_numbers n.kids.now w.0 in ap₂ fed_in w.1 e ∙ two-exchanged _ _ ∙ ap (fed_by Exchanged) (sym e)
+  way-order ByHash w g = let e = two_numbers n.kids.now w.0 in ap₂ fed_in w.1 e ∙ two-unordered _ _ e (g refl) ∙ ap (fed_by ByHash) (sym e)
 
-  kind-feed : (y : Way) → way_of k ≡ y → (way_of k ≡ ByHash → OperandHashes f ws k s l) → feed f (tree_in ws k) ≡ head_of k s l ++ left f ws k 0
-  kind-feed Direct e o = direct-feed (facts_at k Direct e) ∙ head-left Direct e
-  kind-feed Exchanged e o = exchanged-feed (facts_at k Exchanged e) ∙ head-left Exchanged e
-  kind-feed ByHash e o = hashed-feed (facts_at k ByHash e) (o e) ∙ head-left ByHash e
+  reduced-feed : (way_of n ≡ ByHash → o ≡ operands_of f ws n) → feed f (tree_in ws n) ≡ head_of n o ++ left f ws n 0
+  unfolding feed arranged head_of left walked
+  reduced-feed g =
+      let e = kids-feed f ws n.kids.now in
+      let l : length (feeds f (kids_in ws n)) ≡ length n.kids.now = ap length e ∙ length-map n.kids.now (node_feed f ws) in
+      let r : in_order f (order_in n) (feeds f (kids_in ws n)) ≡ fed_by (way_of n) n.kids.now = ap (in_order f (order_in n)) e ∙ way-order (way_of n) (facts_at n _ refl) g in
+      ap₂ (λ m ls. n.code ∷ (fed_v n.code (bare_v n.code n.v) ∷ (bare_w n.code n.v n.w ∷ (m ∷ ls)))) l r
 
   -- node i feeds its own words, and then what its children feed that are left: all
-  pub node-feed : (i : ℕ) → NodeReduced ws i k → (way_of k ≡ ByHash → OperandHashes f ws k s l) → node_feed f ws i ≡ head_of k s l ++ left f ws k 0
+  pub node-feed : (i : ℕ) → NodeReduced ws i n → (way_of n ≡ ByHash → o ≡ operands_of f ws n) → node_feed f ws i ≡ head_of n o ++ left f ws n 0
   unfolding node_feed
-  node-feed i r o = ap (feed f) (sym r.tree) ∙ kind-feed (way_of k) refl o
+  node-feed i r g = ap (feed f) (sym r.tree) ∙ reduced-feed g

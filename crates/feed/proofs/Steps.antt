@@ -1,8 +1,8 @@
 -- The feed one step at a time, as equations: what uses them need not open the definitions.
-use Rattle.std.proofs.Common.{◌≡◌, ℕ, zero, suc, ◌+◌, min, max, List, [], ◌∷◌, ◌++◌, length, refl, ap, ◌∙◌, append-nil}
+use Rattle.std.proofs.Common.{◌≡◌, ℕ, min, max, List, [], ◌∷◌, ◌++◌, length, refl, ap, ◌∙◌, append-nil}
 use Rattle.std.proofs.lemmas.Bool.{ne_eqb}
-use Rattle.rule.specs.Trees.{Tree, Forest, node, nil, cons, kids_of}
-use Rattle.sameness.specs.Reduction.{reduce, reduce_all}
+use Rattle.rule.specs.Trees.{Tree, Forest, node, nil, cons}
+use Rattle.sameness.specs.Reduction.{reduce}
 use Rattle.sameness.specs.Sameness.{pair, bare_v, bare_w}
 use Rattle.feed.specs.Feed.{ordered, exchanged, unordered, order, fed_v, joined, turned, hashes, in_order, arranged, feed, feeds, feed_all, hash_of}
 
@@ -19,12 +19,6 @@ feed_all-cons f t ts = refl
 pub feed_all-pair : (f : List ℕ → ℕ) (a b : Tree) → feed_all f (pair a b) ≡ feed f a ++ feed f b
 unfolding feed_all feeds joined
 feed_all-pair f a b = ap (λ l. feed f a ++ l) (append-nil (feed f b))
-
--- n children feed n times
-pub feeds-kids : (f : List ℕ → ℕ) (acc : List Tree) (ws : List ℕ) (p n : ℕ) → length (feeds f (reduce_all (kids_of acc ws p n))) ≡ n
-unfolding feeds reduce_all kids_of
-feeds-kids f acc ws p zero = refl
-feeds-kids f acc ws p (suc n) = ap suc (feeds-kids f acc ws (p + 1) n)
 
 ---- a node, by the order of its children
 

@@ -1,6 +1,7 @@
 -- The words that a rule feeds to a hasher. A hasher is a number for each sequence of words: f ws is what it ends with
 -- once ws are fed to it, from a fresh start.
 use Rattle.std.specs.Prelude.{◌≡◌, ℕ, min, max, cond, ◌||◌, List, [], ◌∷◌, ◌++◌, length, ◌==◌, refl}
+use Rattle.std.specs.List.{concat}
 use Rattle.rule.specs.Trees.{Tree, Forest, node, nil, cons}
 use Rattle.sameness.specs.Reduction.{reduce}
 use Rattle.sameness.specs.Sameness.{bare_v, bare_w}
@@ -24,8 +25,7 @@ fed_v c v = cond (c == 14) (cond (v == 13) 17 (cond (v == 14) 16 v)) v
 
 -- one after the other
 unfoldable pub joined : List (List ℕ) → List ℕ
-joined [] = []
-joined (a ∷ ls) = a ++ joined ls
+joined ls = concat ls
 
 -- two are exchanged; a comparison has no other number
 unfoldable pub turned : List (List ℕ) → List (List ℕ)

@@ -1,38 +1,61 @@
 -- How the children of a node are fed that is reduced, and the words that it feeds before them.
-use Rattle.std.specs.Prelude.{◌≡◌, ℕ, ◌+◌, ◌-◌, ◌<◌, ◌≤◌, cond, ◌&&◌, ◌||◌, List, [], ◌∷◌, Some, None, Option, ◌==◌, slice_index}
-use Rattle.sameness.specs.declared.kind.Kind.{Kind}
+use Rattle.std.specs.Prelude.{ℕ, cond, ◌&&◌, Some, None, Option, List, [], ◌∷◌, length, reverse, ◌==◌}
+use Rattle.rule.specs.declared.comparison.Comparison.{Comparison}
+use Rattle.rule.specs.declared.comparison.Comparison.TheVariants.{Eq, Lt, Le, Ne, Ge, Gt}
+use Rattle.rule.specs.declared.nodes.Node.{Node}
+use Rattle.rule.specs.Comparisons.{comparison_of}
 use Rattle.sameness.specs.Sameness.{bare_v, bare_w}
+use Rattle.feed.specs.declared.operands.Operands.{Operands}
 use Rattle.feed.specs.declared.way.Way.{Way}
 use Rattle.feed.specs.declared.way.Way.TheVariants.{Direct, Exchanged, ByHash}
 use Rattle.feed.specs.Feed.{fed_v}
 
--- a comparison of two operands: Eq and Ne by the hashes of these, Lt and Le with these exchanged; any other as it stands
-unfoldable pub way_of : Kind → Way
-way_of k = cond (k.code == 14 && k.kids == 2) (cond (k.v == 12 || k.v == 15) ByHash (cond (k.v == 13 || k.v == 14) Exchanged Direct)) Direct
+---- comparisons
 
--- how many of n children are fed one after the other
-abbrev pub walked_by : Way → ℕ → ℕ
-walked_by Direct n = n
-walked_by Exchanged n = n
-walked_by ByHash n = 0
+-- Eq and Ne are fed by the hashes of their operands, and Lt and Le with these exchanged
+abbrev pub way_by : Comparison → Way
+way_by Eq = ByHash
+way_by Lt = Exchanged
+way_by Le = Exchanged
+way_by Ne = ByHash
+way_by Ge = Direct
+way_by Gt = Direct
 
--- where the number of the child stands that is fed after q others, if the first number stands at p
-abbrev pub place_by : Way → ℕ → ℕ → ℕ
-place_by Direct p q = p + q
-place_by Exchanged p q = p + 1 - q
-place_by ByHash p q = p + q
+-- Lt is fed as Gt, and Le as Ge
+abbrev pub fed_as : Comparison → Comparison
+fed_as Eq = Eq
+fed_as Lt = Gt
+fed_as Le = Ge
+fed_as Ne = Ne
+fed_as Ge = Ge
+fed_as Gt = Gt
+
+---- nodes
+
+-- by the comparison that v stands for, if any
+abbrev pub way_at : Option Comparison → Way
+way_at None = Direct
+way_at (Some k) = way_by k
+
+-- a binary expression of two operands, by its comparison; all else as it stands
+unfoldable pub way_of : Node → Way
+way_of n = cond (n.code == 14 && length n.kids.now == 2) (way_at (comparison_of n.v)) Direct
+
+-- the children that are fed one after the other, in their turn
+abbrev pub walked_by : Way → List ℕ → List ℕ
+walked_by Direct ns = ns
+walked_by Exchanged ns = reverse ns
+walked_by ByHash ns = []
+
+unfoldable pub walked : Node → List ℕ
+walked n = walked_by (way_of n) n.kids.now
 
 -- the hashes of the operands, the smaller first
-abbrev pub hashes_by : Way → ℕ → ℕ → List ℕ
-hashes_by Direct s l = []
-hashes_by Exchanged s l = []
-hashes_by ByHash s l = s ∷ (l ∷ [])
+abbrev pub hashes_by : Way → Operands → List ℕ
+hashes_by Direct o = []
+hashes_by Exchanged o = []
+hashes_by ByHash o = o.smaller ∷ (o.larger ∷ [])
 
 -- the words of a node before those of its children
-unfoldable pub head_of : Kind → ℕ → ℕ → List ℕ
-head_of k s l = k.code ∷ (fed_v k.code (bare_v k.code k.v) ∷ (bare_w k.code k.v k.w ∷ (k.kids ∷ hashes_by (way_of k) s l)))
-
--- the child that is fed after q others, if there is one
-abbrev pub Next : List ℕ → Kind → ℕ → Option ℕ → Type 0
-Next ws k q None = walked_by (way_of k) k.kids ≤ q
-Next ws k q (Some x) = (q < walked_by (way_of k) k.kids) × (x ≡ slice_index ws (place_by (way_of k) k.first q))
+unfoldable pub head_of : Node → Operands → List ℕ
+head_of n o = n.code ∷ (fed_v n.code (bare_v n.code n.v) ∷ (bare_w n.code n.v n.w ∷ (length n.kids.now ∷ hashes_by (way_of n) o)))

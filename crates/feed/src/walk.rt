@@ -1,81 +1,96 @@
 // The hash of one node by a fresh hasher, as a loop over a stack of nodes.
-ghost use Rattle.std.specs.Prelude.{◌≡◌, ◌+◌, ◌<◌, ◌≤◌, length, slice_index};
-ghost use Rattle.feed.specs.Pending.{Walkable, node_hash};
-ghost use Rattle.feed.specs.Ways.{Next, head_of};
-ghost use Rattle.hashing.specs.Words.{fed_all, of_words};
+ghost use Rattle.std.specs.Prelude.{◌≡◌, ◌+◌, ◌<◌, ◌≤◌, length};
+ghost use Rattle.feed.specs.Hashed.{AllReduced};
+ghost use Rattle.feed.specs.Pending.{NotedBelow, node_hash, operands_in, operands_of};
+ghost use Rattle.feed.specs.Ways.{head_of, way_of};
+ghost use Rattle.hashing.specs.Words.{fed_all, hash_by};
 ghost use Rattle.sameness.specs.Reducing.{kind_in};
 
-use crate::way::{Way, fed_v, place_of, walked, way_of};
+use crate::operands::Operands;
+use crate::stack::{Frame, Stack};
+use crate::way::{Way, fed_v};
 use hashing::hasher::Hasher;
-use sameness::kind::Kind;
+use rule::nodes::Node;
 use sameness::words::bare_w;
 
-// A rule's words, its nodes, and the hashes of the operands of each Eq and Ne, by its node.
-#[derive(Clone, Copy)]
+// The nodes of a rule, reduced, and the hashes of the operands of each Eq and Ne, by its node. The words are those of
+// the rule: contracts speak of them.
+// Kept: an array, since this crate has no heap.
+#[derive(Drop)]
 pub(crate) struct Noted<'a> {
     pub words: &'a [u32],
-    pub kinds: &'a [Kind],
-    pub smaller: &'a [u64],
-    pub larger: &'a [u64],
+    pub nodes: &'a [Node<'a>],
+    pub operands: [Operands; 2048],
 }
 
-// Feeds the words of a node that come before its children; the two hashes are those of the operands of an Eq or a Ne.
-fn feed_node<H: Hasher>(hasher: &mut H, kind: Kind, smaller: u64, larger: u64)
-    ensures { hasher.new ≡ fed_all H.fed hasher.old (head_of kind smaller larger) }
+// Feeds the words of a node that come before its children; the operands are those of an Eq or a Ne.
+#[tactic(auto, using(crate::proofs::Lefts::no_hashes), unfolding(crate::specs::Ways::head_of))]
+fn feed_node<H: Hasher>(hasher: &mut H, node: Node, operands: Operands)
+    ensures { hasher.new ≡ fed_all H.fed hasher.old (head_of node.entry operands) }
 {
-    hasher.feed(u64::from(kind.code));
-    hasher.feed(u64::from(fed_v(kind)));
-    hasher.feed(u64::from(bare_w(kind)));
-    hasher.feed(kind.kids as u64);
-    if let Way::ByHash = way_of(kind) {
-        hasher.feed(smaller);
-        hasher.feed(larger);
+    hasher.feed(u64::from(node.code));
+    hasher.feed(u64::from(fed_v(node)));
+    hasher.feed(u64::from(bare_w(node)));
+    hasher.feed(node.kids.len() as u64);
+    if let Way::ByHash = Way::of(node) {
+        hasher.feed(operands.smaller);
+        hasher.feed(operands.larger);
     }
 }
 
-// The same of node `i`.
-fn feed_at<H: Hasher>(hasher: &mut H, rule: Noted, i: usize)
-    requires { (i < length rule.kinds.now) × ((i < length rule.smaller.now) × (i < length rule.larger.now)) }
-    ensures { hasher.new ≡ fed_all H.fed hasher.old (head_of (kind_in rule.entry.kinds.now i) (slice_index rule.entry.smaller.now i) (slice_index rule.entry.larger.now i)) }
-{
-    feed_node::<H>(hasher, rule.kinds[i], rule.smaller[i], rule.larger[i]);
-}
-
-// The child that is fed after `q` others.
-fn next_child(words: &[u32], kind: Kind, q: usize) -> Option<usize>
-    requires { (kind.first + kind.kids ≤ length words.now) × (length words.now ≤ 8192) }
-    ensures { Next words.now kind q result }
-{
-    if q >= walked(kind) {
-        return None;
+impl<'a> Noted<'a> {
+    // The words of node `i` before its children.
+    fn feed_at<H: Hasher>(&self, hasher: &mut H, i: usize)
+        requires within { i < length self.now.nodes.now }
+        requires few { length self.now.nodes.now ≤ 2048 }
+        ensures { hasher.new ≡ fed_all H.fed hasher.old (head_of (kind_in self.now.nodes.now i) (operands_in self.now.operands i)) }
+    {
+        feed_node::<H>(hasher, self.nodes[i], self.operands[i]);
     }
-    Some(words[place_of(kind, q)] as usize)
-}
 
-// The hash of node `top`. The stack has a node in each frame, and how many of its children are done.
-pub(crate) fn hash_node<H: Hasher>(rule: Noted, top: usize) -> u64
-    requires { Walkable (of_words H.begun H.fed H.ended) rule.words.now rule.kinds.now rule.smaller.now rule.larger.now top }
-    ensures { result ≡ node_hash (of_words H.begun H.fed H.ended) rule.entry.words.now top }
-{
-    let mut hasher = H::fresh();
-    let mut nodes = [0u16; 2048];
-    let mut done = [0u16; 2048];
-    feed_at::<H>(&mut hasher, rule, top);
-    nodes[0] = top as u16;
-    let mut depth = 1;
-    while depth > 0 {
-        let kind = rule.kinds[nodes[depth - 1] as usize];
-        let q = done[depth - 1];
-        match next_child(rule.words, kind, q as usize) {
-            Some(child) => {
-                feed_at::<H>(&mut hasher, rule, child);
-                done[depth - 1] = q + 1;
-                nodes[depth] = child as u16;
-                done[depth] = 0;
-                depth += 1;
+    // The hash of node `top`.
+    pub fn hash_node<H: Hasher>(&self, top: usize) -> u64
+        requires reduced { AllReduced self.now.words.now self.now.nodes.now }
+        requires within { top < length self.now.nodes.now }
+        requires noted { NotedBelow (hash_by H.Hasher) self.now.words.now self.now.nodes.now self.now.operands (top + 1) }
+        ensures { result ≡ node_hash (hash_by H.Hasher) self.now.words.now top }
+    {
+        let mut hasher = H::fresh();
+        let mut stack = Stack::new();
+        self.feed_at::<H>(&mut hasher, top);
+        stack.push(Frame {
+            node: top as u16,
+            done: 0,
+        });
+        while let Some(frame) = stack.pop() {
+            let node = self.nodes[frame.node as usize];
+            if let Some(child) = Way::of(node).nth(node.kids, frame.done as usize) {
+                self.feed_at::<H>(&mut hasher, child as usize);
+                stack.push(Frame {
+                    done: frame.done + 1,
+                    ..frame
+                });
+                stack.push(Frame {
+                    node: child as u16,
+                    done: 0,
+                });
             }
-            None => depth -= 1,
         }
+        hasher.end()
     }
-    hasher.end()
+
+    // The hashes of the operands of node `i`, an Eq or a Ne.
+    #[tactic(auto, using(crate::proofs::Roots::two, crate::proofs::Roots::operand_below), unfolding(crate::specs::Pending::operands_of))]
+    pub fn hash_operands<H: Hasher>(&self, i: usize) -> Operands
+        requires reduced { AllReduced self.now.words.now self.now.nodes.now }
+        requires within { i < length self.now.nodes.now }
+        requires by_hash { way_of (kind_in self.now.nodes.now i) ≡ Way.ByHash }
+        requires noted { NotedBelow (hash_by H.Hasher) self.now.words.now self.now.nodes.now self.now.operands i }
+        ensures { result ≡ operands_of (hash_by H.Hasher) self.now.words.now (kind_in self.now.nodes.now i) }
+    {
+        let kids = self.nodes[i].kids;
+        let a = self.hash_node::<H>(kids[0] as usize);
+        let b = self.hash_node::<H>(kids[1] as usize);
+        Operands::of(a, b)
+    }
 }

@@ -1,68 +1,83 @@
 // How the children of a node are fed.
-ghost use Rattle.std.specs.Prelude.{◌≡◌, ◌+◌, ◌<◌, ◌≤◌};
+ghost use Rattle.std.specs.Prelude.{◌≡◌, slice_get};
 ghost use Rattle.feed.specs.Feed.{fed_v};
-ghost use Rattle.feed.specs.Ways.{place_by, walked_by, way_of};
+ghost use Rattle.feed.specs.Ways.{fed_as};
 ghost use Rattle.sameness.specs.Sameness.{bare_v};
 
-use sameness::kind::Kind;
+use rule::codes::BINARY;
+use rule::comparison::Comparison;
+use rule::nodes::Node;
 use sameness::words::bare_v;
 
 // As they stand, exchanged, or by their own hashes.
-#[derive(Clone, Copy)]
+#[derive(Clone, Copy, Debug, PartialEq, Eq)]
 pub(crate) enum Way {
     Direct,
     Exchanged,
     ByHash,
 }
 
-// Of the binary expressions, Eq and Ne feed the hashes of their operands, and Lt and Le exchange these.
-pub(crate) fn way_of(kind: Kind) -> Way
-    ensures { result ≡ way_of kind }
-{
-    if kind.code != 14 || kind.kids != 2 {
-        return Way::Direct;
+impl Way {
+    ghost use Rattle.feed.specs.Ways.{walked_by, way_by, way_of};
+
+    // Of the binary expressions only comparisons are not fed as they stand.
+    #[tactic(auto, using(crate::proofs::Orders::binary_way), unfolding(crate::specs::Ways::way_of))]
+    pub fn of(node: Node) -> Way
+        ensures { result ≡ way_of node.entry }
+    {
+        if node.code != BINARY || node.kids.len() != 2 {
+            return Way::Direct;
+        }
+        match Comparison::of(node.v) {
+            Some(comparison) => Way::by(comparison),
+            None => Way::Direct,
+        }
     }
-    match kind.v {
-        12 => Way::ByHash,
-        13 => Way::Exchanged,
-        14 => Way::Exchanged,
-        15 => Way::ByHash,
-        _ => Way::Direct,
+
+    // Eq and Ne feed the hashes of their operands, and Lt and Le exchange these.
+    fn by(comparison: Comparison) -> Way
+        ensures { result ≡ way_by comparison }
+    {
+        match comparison {
+            Comparison::Eq | Comparison::Ne => Way::ByHash,
+            Comparison::Lt | Comparison::Le => Way::Exchanged,
+            Comparison::Ge | Comparison::Gt => Way::Direct,
+        }
+    }
+
+    // The child that is fed after `q` others, if the children are fed one after the other.
+    pub fn nth(self, children: &[u32], q: usize) -> Option<u32>
+        ensures { result ≡ slice_get (walked_by self children.now) q }
+    {
+        match self {
+            Way::Direct => children.get(q).copied(),
+            Way::Exchanged => children.iter().rev().nth(q).copied(),
+            Way::ByHash => None,
+        }
     }
 }
 
-// v as it is fed: Lt as Gt, and Le as Ge.
-pub(crate) fn fed_v(kind: Kind) -> u32
-    ensures { result ≡ fed_v kind.code (bare_v kind.code kind.v) }
+// What a comparison is fed as: Lt as Gt, and Le as Ge.
+fn fed_as(comparison: Comparison) -> Comparison
+    ensures { result ≡ fed_as comparison }
 {
-    let v = bare_v(kind);
-    if kind.code != 14 {
+    match comparison {
+        Comparison::Lt | Comparison::Le => comparison.reversed(),
+        _ => comparison,
+    }
+}
+
+// v as it is fed.
+#[tactic(auto, using(crate::proofs::Orders::binary_v), unfolding(crate::specs::Feed::fed_v))]
+pub(crate) fn fed_v(node: Node) -> u32
+    ensures { result ≡ fed_v node.entry.code (bare_v node.entry.code node.entry.v) }
+{
+    let v = bare_v(node);
+    if node.code != BINARY {
         return v;
     }
-    match v {
-        13 => 17,
-        14 => 16,
-        _ => v,
-    }
-}
-
-// How many children are fed one after the other.
-pub(crate) fn walked(kind: Kind) -> usize
-    ensures { result ≡ walked_by (way_of kind) kind.kids }
-{
-    match way_of(kind) {
-        Way::ByHash => 0,
-        _ => kind.kids,
-    }
-}
-
-// Where the number of the child stands that is fed after `q` others.
-pub(crate) fn place_of(kind: Kind, q: usize) -> usize
-    requires { (kind.first + kind.kids ≤ 8192) × (q < walked_by (way_of kind) kind.kids) }
-    ensures { result ≡ place_by (way_of kind) kind.first q }
-{
-    match way_of(kind) {
-        Way::Exchanged => kind.first + 1 - q,
-        _ => kind.first + q,
+    match Comparison::of(v) {
+        Some(comparison) => fed_as(comparison).number(),
+        None => v,
     }
 }

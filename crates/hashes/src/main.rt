@@ -5,22 +5,19 @@
 
 #![tactic(auto)]
 
+use cases::answer_input;
 use feed::hash::hash_rule;
 use hashing::fnv1a::Fnv1a;
 use hashing::rotating::Rotating;
 use rule::fault::Fault;
 use std::io;
-use std::io::Read;
 use tables::line::Entry;
 use tables::table::read_bytes;
 
 fn main(rt: HostRuntime) -> io::Result<()> {
-    let mut bytes = Vec::new(rt.alloc());
-    rt.stdin().read_to_end(&mut bytes)?;
-    match read_bytes(rt.alloc(), bytes.as_slice()) {
-        Ok(entries) => hash_all(&rt, entries.as_slice()),
-        Err(fault) => rt.println(&fault),
-    }
+    answer_input(&rt, read_bytes, |entries| {
+        hash_all(&rt, entries.as_slice())
+    })
 }
 
 fn hash_all(rt: &HostRuntime, entries: &[Entry]) -> io::Result<()> {
@@ -28,7 +25,7 @@ fn hash_all(rt: &HostRuntime, entries: &[Entry]) -> io::Result<()> {
         let name = entry.name.as_str();
         match both_hashes(entry.words.as_slice()) {
             Ok((rotating, fnv1a)) => println!(rt; "{name}: 0x{rotating:016x} 0x{fnv1a:016x}")?,
-            Err(fault) => refusal(rt, name, fault)?,
+            Err(fault) => println!(rt; "{name}: refused {}", fault.number())?,
         }
     }
     Ok(())
@@ -38,9 +35,4 @@ fn both_hashes(words: &[u32]) -> Result<(u64, u64), Fault> {
     let rotating = hash_rule::<Rotating>(words)?;
     let fnv1a = hash_rule::<Fnv1a>(words)?;
     Ok((rotating, fnv1a))
-}
-
-fn refusal(rt: &HostRuntime, name: &str, fault: Fault) -> io::Result<()> {
-    let number = fault.number();
-    println!(rt; "{name}: refused {number}")
 }

@@ -1,5 +1,6 @@
 -- FNV-1a of 64 bits. Assumes nothing.
-use Rattle.std.specs.Prelude.{◌≡◌, ℕ, ◌*◌, ◌/◌, ◌%◌, ◌^◌, List, [], ◌∷◌, ◌++◌, bit_xor, refl}
+use Rattle.std.specs.Prelude.{◌≡◌, ℕ, ◌*◌, ◌/◌, ◌%◌, ◌^◌, List, [], ◌∷◌, bit_xor, refl}
+use Rattle.std.specs.List.{flat_map}
 use Rattle.hashing.specs.Words.{fed_all}
 
 abbrev pub fnv1a_start : ℕ
@@ -23,8 +24,7 @@ le_bytes w = (w % 256) ∷ (w / 256 % 256) ∷ (w / 65536 % 256) ∷ (w / 167772
 
 -- the bytes of words, one word after another
 abbrev pub le_bytes_of : List ℕ → List ℕ
-le_bytes_of [] = []
-le_bytes_of (w ∷ ws) = le_bytes w ++ le_bytes_of ws
+le_bytes_of ws = flat_map le_bytes ws
 
 -- the state after one word
 abbrev pub fnv1a_word : ℕ → ℕ → ℕ

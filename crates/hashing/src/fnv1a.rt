@@ -1,6 +1,6 @@
 // The byte-wise hasher: FNV-1a of 64 bits.
 ghost use Rattle.std.specs.Prelude.{◌≡◌};
-ghost use Rattle.hashing.specs.Fnv1a.{fnv1a_start, fnv1a_byte, fnv1a_from, fnv1a_of, fnv1a_word, le_bytes_of};
+ghost use Rattle.hashing.specs.Fnv1a.{fnv1a_start, fnv1a_from, fnv1a_of, fnv1a_word, le_bytes_of};
 
 use crate::hasher::{Hasher, hash_words};
 
@@ -9,7 +9,7 @@ const START: u64 = 0xcbf2_9ce4_8422_2325;
 const PRIME: u64 = 0x0100_0000_01b3;
 
 /// Hashes the eight bytes of each word, the lowest first.
-#[derive(Clone, Copy)]
+#[derive(Clone, Copy, Debug, PartialEq, Eq)]
 pub struct Fnv1a {
     state: u64,
 }
@@ -52,16 +52,7 @@ pub fn fnv1a_words(words: &[u64]) -> u64
 fn fold_bytes(state: u64, bytes: &[u8]) -> u64
     ensures { result ≡ fnv1a_from state bytes.now }
 {
-    let mut folded = state;
-    for byte in bytes {
-        folded = fold_byte(folded, *byte);
-    }
-    folded
-}
-
-// The state after one byte.
-fn fold_byte(state: u64, byte: u8) -> u64
-    ensures { result ≡ fnv1a_byte state byte }
-{
-    (state ^ u64::from(byte)).wrapping_mul(PRIME)
+    bytes.iter().fold(state, |state, byte| {
+        (state ^ u64::from(*byte)).wrapping_mul(PRIME)
+    })
 }

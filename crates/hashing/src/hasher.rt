@@ -1,6 +1,7 @@
-// The interface of a hasher, and the hash of a run of words by any hasher.
+// The interface of a hasher.
 ghost use Rattle.std.specs.Prelude.{◌≡◌, ℕ};
-ghost use Rattle.hashing.specs.Words.{of_words};
+
+pub use crate::words::hash_words;
 
 /// A hasher of 64-bit words.
 ///
@@ -28,15 +29,4 @@ pub trait Hasher: Sized + Drop {
 
     fn end(&self) -> u64
         ensures { result ≡ ended self.now };
-}
-
-/// The hash of a run of words by a fresh hasher, the first word fed first.
-pub fn hash_words<H: Hasher>(words: &[u64]) -> u64
-    ensures { result ≡ of_words H.begun H.fed H.ended words.now }
-{
-    let mut hasher = H::fresh();
-    for word in words {
-        hasher.feed(*word);
-    }
-    hasher.end()
 }

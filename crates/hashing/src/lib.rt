@@ -8,3 +8,4 @@ pub mod named;
 pub mod rotating;
 #[cfg(test)]
 mod tests;
+pub mod words;

@@ -1,25 +1,35 @@
 // The names of the hashers, as texts write them.
-ghost use Rattle.hashing.specs.Named.{NamedAs};
 ghost use Rattle.hashing.specs.Named.{spelling};
 ghost use Rattle.std.specs.Prelude.{Some};
 
+use std::error::Error;
 use std::fmt;
+use std::str::FromStr;
 
-#[derive(Clone, Copy, Debug, PartialEq)]
+#[derive(Clone, Copy, Debug, PartialEq, Eq)]
 pub enum HasherName {
     Rotating,
     Fnv1a,
 }
 
-impl HasherName {
-    /// The hasher that a text names.
-    pub fn of(text: &str) -> Option<HasherName>
-        ensures { NamedAs text.now result }
-    {
+/// The text names no hasher.
+#[derive(Clone, Copy, Debug, PartialEq, Eq)]
+pub struct UnknownHasher;
+
+/// The hasher that a text names.
+impl FromStr for HasherName {
+    type Err = UnknownHasher;
+
+    ghost use Rattle.hashing.specs.Named.{NamedAs};
+
+    ghost from_str_gives = { NamedAs };
+
+    fn from_str(text: &str) -> Result<HasherName, UnknownHasher> {
+        // Kept: each enum that is read has its own words, and a list of them with a search is longer.
         match text {
-            "rotating" => Some(HasherName::Rotating),
-            "fnv1a" => Some(HasherName::Fnv1a),
-            _ => None,
+            "rotating" => Ok(HasherName::Rotating),
+            "fnv1a" => Ok(HasherName::Fnv1a),
+            _ => Err(UnknownHasher),
         }
     }
 }
@@ -34,3 +44,11 @@ impl fmt::Display for HasherName {
         }
     }
 }
+
+impl fmt::Display for UnknownHasher {
+    fn fmt<W: fmt::Write>(&self, f: &mut fmt::Formatter<W>) -> fmt::Result {
+        f.write_str("no hasher has this name: it is rotating or fnv1a")
+    }
+}
+
+impl Error for UnknownHasher {}

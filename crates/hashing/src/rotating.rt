@@ -7,7 +7,7 @@ use crate::hasher::Hasher;
 const FACTOR: u64 = 0x517c_c1b7_2722_0a95;
 
 /// Hashes word by word: quick, and with no promise against chosen words.
-#[derive(Clone, Copy)]
+#[derive(Clone, Copy, Debug, PartialEq, Eq)]
 pub struct Rotating {
     state: u64,
 }

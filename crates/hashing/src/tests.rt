@@ -1,6 +1,7 @@
 // Hashes on examples.
 use crate::fnv1a::{Fnv1a, fnv1a_bytes, fnv1a_words};
 use crate::hasher::{Hasher, hash_words};
+use crate::named::{HasherName, UnknownHasher};
 use crate::rotating::Rotating;
 
 // The published values of the 64-bit function.
@@ -41,4 +42,14 @@ fn feeds_on(rt: HostRuntime) {
     assert_eq!(rt; hasher.end(), 0x517c_c1b7_2722_0a95);
     hasher.feed(2);
     assert_eq!(rt; hasher.end(), hash_words::<Rotating>(&[1, 2]));
+}
+
+// A name is read as it is printed, and no other text is one.
+#[test]
+fn reads_names(rt: HostRuntime) {
+    assert_eq!(rt; "rotating".parse::<HasherName>(), Ok(HasherName::Rotating));
+    assert_eq!(rt; "fnv1a".parse::<HasherName>(), Ok(HasherName::Fnv1a));
+    assert_eq!(rt; "".parse::<HasherName>(), Err(UnknownHasher));
+    assert_eq!(rt; "Fnv1a".parse::<HasherName>(), Err(UnknownHasher));
+    assert_eq!(rt; "fnv1".parse::<HasherName>(), Err(UnknownHasher));
 }

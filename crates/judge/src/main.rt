@@ -14,6 +14,7 @@ mod check;
 mod classing;
 mod compare;
 mod hash;
+mod hashers;
 mod place;
 mod replay;
 mod source;

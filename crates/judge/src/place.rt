@@ -1,68 +1,80 @@
 // Where a rule stands in a catalogue, or why it does not, and how many do.
 use catalogue::asking::hash_of;
-use catalogue::fault::Fault;
+use catalogue::fault::{Fault, NotStanding, Numbered};
 use catalogue::record::{Catalogue, Entered, Slot};
+use kinds::rules::RuleFault;
 use std::fmt;
-use verdicts::verdict::{Verdict, verdict_of};
+use verdicts::rules::Rules;
 
 #[derive(Clone, Copy)]
-pub enum Place {
-    Entered {
-        number: usize,
-        class: usize,
-        hash: u64,
-    },
-    // the words are no rule that can be entered
-    Unfit(Verdict),
-    Refused {
-        number: u8,
-        ground: &'static str,
-    },
+pub struct Place {
+    pub number: usize,
+    pub class: usize,
+    pub hash: u64,
 }
 
-// The place of a rule with these words, by what its enter has answered.
+// Why a rule has no place.
+#[derive(Clone, Copy)]
+pub enum Unplaced {
+    Refused(Fault<RuleFault>),
+    Missing(NotStanding),
+}
+
+impl From<Fault<RuleFault>> for Unplaced {
+    fn from(fault: Fault<RuleFault>) -> Unplaced {
+        Unplaced::Refused(fault)
+    }
+}
+
+impl From<NotStanding> for Unplaced {
+    fn from(fault: NotStanding) -> Unplaced {
+        Unplaced::Missing(fault)
+    }
+}
+
+impl Unplaced {
+    fn number(self) -> u8 {
+        match self {
+            Unplaced::Refused(fault) => fault.number(),
+            Unplaced::Missing(fault) => fault.number(),
+        }
+    }
+}
+
+// The place of a rule, by what its enter has answered.
 pub fn place_of<H>(
     cat: &Catalogue<H>,
     slots: &[Slot],
-    words: &[u32],
-    answer: &Result<Entered, Fault>,
-) -> Place {
-    match answer {
-        Ok(entered) => match hash_of(cat, slots, entered.number) {
-            Ok(hash) => Place::Entered {
-                number: entered.number,
-                class: entered.class,
-                hash,
-            },
-            Err(fault) => refusal(words, fault),
-        },
-        Err(fault) => refusal(words, *fault),
-    }
-}
-
-fn refusal(words: &[u32], fault: Fault) -> Place {
-    let ground = match fault {
-        Fault::Input(_) => return Place::Unfit(verdict_of(words)),
-        Fault::NoSlot => "no slot is free",
-        Fault::NoUnits => "too few units are free",
-        Fault::NotStanding => "no such entry stands",
-    };
-    Place::Refused {
-        number: fault.number(),
-        ground,
-    }
+    answer: &Result<Entered, Fault<RuleFault>>,
+) -> Result<Place, Unplaced> {
+    let Entered { number, class } = (*answer)?;
+    let hash = hash_of(cat, slots, number)?;
+    Ok(Place {
+        number,
+        class,
+        hash,
+    })
 }
 
 impl fmt::Display for Place {
     fn fmt<W: fmt::Write>(&self, f: &mut fmt::Formatter<W>) -> fmt::Result {
+        let Place {
+            number,
+            class,
+            hash,
+        } = self;
+        write!(f, "entry {number}, class {class}, hash 0x{hash:016x}")
+    }
+}
+
+impl fmt::Display for Unplaced {
+    fn fmt<W: fmt::Write>(&self, f: &mut fmt::Formatter<W>) -> fmt::Result {
+        write!(f, "refused {}, ", self.number())?;
         match self {
-            Place::Entered {
-                number,
-                class,
-                hash,
-            } => { write!(f, "entry {number}, class {class}, hash 0x{hash:016x}") }
-            Place::Unfit(verdict) => write!(f, "{verdict}"),
-            Place::Refused { number, ground } => write!(f, "refused {number}, {ground}"),
+            Unplaced::Refused(Fault::Input(fault)) => write!(f, "{}", fault.0),
+            Unplaced::Refused(Fault::NoSlot) => f.write_str("no slot is free"),
+            Unplaced::Refused(Fault::NoUnits) => f.write_str("too few units are free"),
+            Unplaced::Missing(_) => f.write_str("no such entry stands"),
         }
     }
 }
@@ -76,15 +88,18 @@ pub struct Counts {
 
 impl fmt::Display for Counts {
     fn fmt<W: fmt::Write>(&self, f: &mut fmt::Formatter<W>) -> fmt::Result {
-        let rules = self.rules;
-        let entered = self.entered;
+        let Counts {
+            rules,
+            entered,
+            classes,
+        } = *self;
         let refused = rules.saturating_sub(entered);
-        let classes = self.classes;
-        let rule = if rules == 1 { "rule" } else { "rules" };
+        let rules = Rules(rules);
+        // Kept: the one place where classes are counted in words.
         let class = if classes == 1 { "class" } else { "classes" };
         write!(
             f,
-            "{rules} {rule}: {entered} entered, {refused} refused; {classes} {class}"
+            "{rules}: {entered} entered, {refused} refused; {classes} {class}"
         )
     }
 }

@@ -1,72 +1,71 @@
 // `judge replay SCRIPT`: the answer of each call of a history.
+use crate::hashers::{UnderHasher, under_hasher};
 use crate::source::{Trouble, load_script};
 use catalogue::kind::Kind;
-use catalogue::record::{Catalogue, Slot};
-use hashing::fnv1a::Fnv1a;
+use catalogue::record::Slot;
 use hashing::hasher::Hasher;
-use hashing::named::HasherName;
-use hashing::rotating::Rotating;
 use kinds::names::Names;
 use kinds::rules::Rules;
-use replays::perform::perform;
+use replays::store::Store;
 use scripts::call::Call;
 use scripts::heading::Heading;
 use scripts::script::Script;
 use std::fmt;
 
 pub fn replay<'a>(rt: &HostRuntime, script: &'a str) -> Result<(), Trouble<'a>> {
-    let heap = rt.alloc();
     match load_script(rt, script)? {
-        Script::Rules(heading, calls) => {
-            let mut units = vec![in heap; 0u32; heading.units]?;
-            by_hasher(rt, &Rules, heading, units.as_mut_slice(), calls.as_slice())
-        }
-        Script::Names(heading, calls) => {
-            let mut units = vec![in heap; 0u8; heading.units]?;
-            by_hasher(rt, &Names, heading, units.as_mut_slice(), calls.as_slice())
-        }
+        Script::Rules(heading, calls) => play(rt, Rules, heading, calls.as_slice()),
+        Script::Names(heading, calls) => play(rt, Names, heading, calls.as_slice()),
     }
 }
 
-fn by_hasher<'a, K: Kind>(
+fn play<'a, K: Kind + Drop>(
     rt: &HostRuntime,
-    kind: &K,
+    kind: K,
     heading: Heading,
-    units: &mut [K::Unit],
     calls: &[Call<K::Unit>],
 ) -> Result<(), Trouble<'a>>
 where
-    K::Unit: fmt::Display,
+    K::Unit: fmt::Display + Default,
 {
-    match heading.hasher {
-        HasherName::Rotating => play::<K, Rotating>(rt, kind, heading.slots, units, calls),
-        HasherName::Fnv1a => play::<K, Fnv1a>(rt, kind, heading.slots, units, calls),
-    }
+    let playing = Playing {
+        rt,
+        kind,
+        heading,
+        calls,
+    };
+    under_hasher(heading.hasher, playing)
 }
 
-fn play<'a, K: Kind, H: Hasher>(
-    rt: &HostRuntime,
-    kind: &K,
-    entries: usize,
-    units: &mut [K::Unit],
-    calls: &[Call<K::Unit>],
-) -> Result<(), Trouble<'a>>
+#[derive(Drop)]
+struct Playing<'r, K: Kind> {
+    rt: &'r HostRuntime,
+    kind: K,
+    heading: Heading,
+    calls: &'r [Call<K::Unit>],
+}
+
+impl<'r, K: Kind + Drop> UnderHasher for Playing<'r, K>
 where
-    K::Unit: fmt::Display,
+    K::Unit: fmt::Display + Default,
 {
-    let heap = rt.alloc();
-    let free = Slot {
-        start: 0,
-        len: 0,
-        hash: 0,
-        class: 0,
-        begun: 0,
-    };
-    let mut cat: Catalogue<H> = Catalogue::new();
-    let mut slots = vec![in heap; free; entries]?;
-    for call in calls {
-        let answer = perform(heap, &mut cat, kind, slots.as_mut_slice(), units, call)?;
-        rt.println(&answer)?;
+    type Output = Result<(), Trouble<'static>>;
+
+    fn run<H: Hasher>(self) -> Result<(), Trouble<'static>> {
+        let Playing {
+            rt,
+            kind,
+            heading,
+            calls,
+        } = self;
+        let heap = rt.alloc();
+        let free = Slot::default();
+        let unit = K::Unit::default();
+        let mut store = Store::<K, H>::new(heap, kind, heading.slots, heading.units, free, unit)?;
+        for call in calls {
+            let answer = store.answer(heap, call)?;
+            rt.println(&answer)?;
+        }
+        Ok(())
     }
-    Ok(())
 }

@@ -1,4 +1,6 @@
 // Where a table or a script comes from, and what can be wrong with it.
+ghost use Rattle.judge.specs.Sources.{NamedBy};
+
 use scripts::fault::ScriptFault;
 use scripts::script::{Script, read_script};
 use std::alloc::AllocError;
@@ -8,12 +10,50 @@ use tables::fault::TableFault;
 use tables::line::Entry;
 use tables::table::read_bytes;
 
+#[derive(Clone, Copy)]
+pub enum Source<'a> {
+    StandardInput,
+    File(&'a str),
+}
+
+impl<'a> From<&'a str> for Source<'a> {
+    ghost from_gives = { λ name source. NamedBy name.now source };
+
+    fn from(name: &'a str) -> Source<'a> {
+        match name {
+            "-" => Source::StandardInput,
+            file => Source::File(file),
+        }
+    }
+}
+
+impl<'a> fmt::Display for Source<'a> {
+    fn fmt<W: fmt::Write>(&self, f: &mut fmt::Formatter<W>) -> fmt::Result {
+        f.write_str(match self {
+            Source::StandardInput => "standard input",
+            Source::File(file) => file,
+        })
+    }
+}
+
 #[derive(Drop)]
 pub enum Trouble<'a> {
-    Unread { file: &'a str, error: io::Error },
-    Faulty { file: &'a str, fault: TableFault },
-    Misread { file: &'a str, fault: ScriptFault },
-    Unnamed { file: &'a str, name: &'a str },
+    Unread {
+        source: Source<'a>,
+        error: io::Error,
+    },
+    Faulty {
+        source: Source<'a>,
+        fault: TableFault,
+    },
+    Misread {
+        source: Source<'a>,
+        fault: ScriptFault,
+    },
+    Unnamed {
+        source: Source<'a>,
+        name: &'a str,
+    },
     Unwritten(io::Error),
     Memory,
 }
@@ -33,16 +73,16 @@ impl<'a> From<AllocError> for Trouble<'a> {
 impl<'a> fmt::Display for Trouble<'a> {
     fn fmt<W: fmt::Write>(&self, f: &mut fmt::Formatter<W>) -> fmt::Result {
         match self {
-            Trouble::Unread { file, error } => {
-                write!(f, "{file}: expected a file that can be read: {error}")
+            Trouble::Unread { source, error } => {
+                write!(f, "{source}: expected a file that can be read: {error}")
             }
-            Trouble::Faulty { file, fault } => match fault.line() {
-                Some(line) => write!(f, "{file}:{line}: {fault}"),
-                None => write!(f, "{file}: {fault}"),
+            Trouble::Faulty { source, fault } => match fault.line() {
+                Some(line) => write!(f, "{source}:{line}: {fault}"),
+                None => write!(f, "{source}: {fault}"),
             },
-            Trouble::Misread { file, fault } => write!(f, "{file}: {fault}"),
-            Trouble::Unnamed { file, name } => {
-                write!(f, "{file}: expected the name of a rule, found {name:?}")
+            Trouble::Misread { source, fault } => write!(f, "{source}: {fault}"),
+            Trouble::Unnamed { source, name } => {
+                write!(f, "{source}: expected the name of a rule, found {name:?}")
             }
             Trouble::Unwritten(error) => write!(f, "standard output: {error}"),
             Trouble::Memory => f.write_str("out of memory"),
@@ -50,44 +90,31 @@ impl<'a> fmt::Display for Trouble<'a> {
     }
 }
 
-// The name of a table in messages.
-pub fn file_of(table: &str) -> &str {
-    if table == "-" {
-        "standard input"
-    } else {
-        table
-    }
-}
-
-// The rules of the table in a file, or on standard input where the file is `-`.
+// The rules of a table.
+// Kept: beside `load_script`; what is left of the two is the parser and the trouble that has its fault.
 pub fn load<'a>(rt: &HostRuntime, table: &'a str) -> Result<Vec<Entry>, Trouble<'a>> {
-    let file = file_of(table);
-    match read(rt, table) {
-        Ok(bytes) => match read_bytes(rt.alloc(), bytes.as_slice()) {
-            Ok(entries) => Ok(entries),
-            Err(fault) => Err(Trouble::Faulty { file, fault }),
-        },
-        Err(error) => Err(Trouble::Unread { file, error }),
-    }
+    let source = Source::from(table);
+    let bytes = read(rt, source)?;
+    read_bytes(rt.alloc(), bytes.as_slice()).map_err(|fault| Trouble::Faulty { source, fault })
 }
 
-// The script in a file, or on standard input.
 pub fn load_script<'a>(rt: &HostRuntime, script: &'a str) -> Result<Script, Trouble<'a>> {
-    let file = file_of(script);
-    match read(rt, script) {
-        Ok(bytes) => match read_script(rt.alloc(), bytes.as_slice()) {
-            Ok(script) => Ok(script),
-            Err(fault) => Err(Trouble::Misread { file, fault }),
-        },
-        Err(error) => Err(Trouble::Unread { file, error }),
-    }
+    let source = Source::from(script);
+    let bytes = read(rt, source)?;
+    read_script(rt.alloc(), bytes.as_slice()).map_err(|fault| Trouble::Misread { source, fault })
 }
 
-fn read(rt: &HostRuntime, table: &str) -> io::Result<Vec<u8>> {
-    if table != "-" {
-        return fs::read(rt, table);
+fn read<'a>(rt: &HostRuntime, source: Source<'a>) -> Result<Vec<u8>, Trouble<'a>> {
+    bytes_of(rt, source).map_err(|error| Trouble::Unread { source, error })
+}
+
+fn bytes_of(rt: &HostRuntime, source: Source<'_>) -> io::Result<Vec<u8>> {
+    match source {
+        Source::File(file) => fs::read(rt, file),
+        Source::StandardInput => {
+            let mut bytes = Vec::new(rt.alloc());
+            rt.stdin().read_to_end(&mut bytes)?;
+            Ok(bytes)
+        }
     }
-    let mut bytes = Vec::new(rt.alloc());
-    rt.stdin().read_to_end(&mut bytes)?;
-    Ok(bytes)
 }

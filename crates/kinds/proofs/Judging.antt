@@ -1,13 +1,30 @@
--- What comparing two sound rules cannot answer.
-use Rattle.std.proofs.Common.{ℕ, ◌≤◌, List, length, Err, refl, arith}
+-- What comparing and hashing sound rules answers.
+use Rattle.std.proofs.Common.{◌≡◌, ℕ, ◌≤◌, Bool, true, false, List, length, Ok, Err, Result, refl, ◌∙◌, arith}
+use Rattle.std.specs.Prelude.{IsTrue, ◌↔◌}
+use Rattle.std.specs.Result.{result_unwrap_or}
+use Rattle.rule.specs.declared.fault.Fault.{Fault}
 use Rattle.rule.specs.Faults.{number_of}
 use Rattle.sameness.specs.declared.compare.CompareFault.{CompareFault}
 use Rattle.sameness.specs.declared.compare.CompareFault.TheVariants.{First, Second, PairTable}
-use Rattle.sameness.specs.Comparing.{Compared}
+use Rattle.sameness.specs.Comparing.{Compared, Unsound}
+use Rattle.feed.proofs.Steps.{hash-rule}
+use Rattle.feed.specs.Hashed.{Hashed}
 use Rattle.catalogue.specs.Kinds.{SoundBy}
-use Rattle.kinds.specs.Rules.{meets_rule}
+use Rattle.kinds.specs.Rules.{meets_rule, rule_feed, same_rule}
 
-pub refused-not : (ws us ps qs : List ℕ) (f : CompareFault) → SoundBy meets_rule ws → SoundBy meets_rule us → 2048 ≤ length ps → Compared ws us ps qs (Err f) → ⊥
-refused-not ws us ps qs (First f) a b room c = a (number_of f) (f, refl, c.0.0.met)
-refused-not ws us ps qs (Second f) a b room c = b (number_of f) (f, refl, c.1.0.met)
-refused-not ws us ps qs PairTable a b room c = omega (arith, c.2)
+unsound-not : (ws : List ℕ) (f : Fault) → SoundBy meets_rule ws → Unsound ws f → ⊥
+unsound-not ws f sound refused = sound (number_of f) (f, refl, refused.0.met)
+
+-- they are compared, whatever is said of others
+pub compared-sound : (ws us ps qs : List ℕ) (r : Result Bool CompareFault) (b : Bool) → Compared ws us ps qs r → b ≡ result_unwrap_or r false → 2048 ≤ length ps
+    → SoundBy meets_rule ws → SoundBy meets_rule us → (IsTrue b ↔ same_rule ws us)
+compared-sound ws us ps qs (Ok true) b c e room _ _ = (λ _. c.3.same, λ _. e)
+compared-sound ws us ps qs (Ok false) b c e room _ _ = (λ t. absurd (cc), λ s. absurd (c.3.differ s))
+compared-sound ws us ps qs (Err (First f)) b c e room x y = absurd (unsound-not ws f x c.0)
+compared-sound ws us ps qs (Err (Second f)) b c e room x y = absurd (unsound-not us f y c.1)
+compared-sound ws us ps qs (Err PairTable) b c e room x y = absurd (omega (arith, c.2))
+
+-- and hashed
+pub hashed-sound : (f : List ℕ → ℕ) (ws : List ℕ) (r : Result ℕ Fault) (h : ℕ) → Hashed f ws r → h ≡ result_unwrap_or r 0 → SoundBy meets_rule ws → h ≡ f (rule_feed f ws)
+hashed-sound f ws (Ok h') h c e _ = e ∙ c.1 ∙ hash-rule _ _
+hashed-sound f ws (Err g) h c e x = absurd (unsound-not ws g x c)

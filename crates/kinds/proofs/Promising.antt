@@ -1,5 +1,6 @@
 -- Of two standing rules, "the same" is that they are renamable.
 use Rattle.std.proofs.Common.{ℕ, ◌<◌, List, length, sym, subst₂, arith}
+use Rattle.kinds.specs.declared.rules.RuleFault.{RuleFault}
 use Rattle.catalogue.specs.Kinds.{SoundBy}
 use Rattle.catalogue.specs.Model.{Event}
 use Rattle.catalogue.specs.Promise.{Promise}
@@ -13,7 +14,7 @@ same-renamable ws us s = record { to = s.alike.to; from = s.alike.from; agree = 
 renamable-same : (ws us : List ℕ) → SoundBy meets_rule ws → SoundBy meets_rule us → Renamable ws us → same_rule ws us
 renamable-same ws us a b r = record { alike = record { to = r.to; from = r.from; agree = r.agree }; clean₁ = clean-rule ws a; clean₂ = clean-rule us b }
 
-pub rule-promise : (f : List ℕ → ℕ) (h : List (Event ℕ)) (s : State ℕ) (n : ℕ) → Promise rules f h s n → RulePromise f h s n
+pub rule-promise : (f : List ℕ → ℕ) (h : List (Event ℕ RuleFault)) (s : State ℕ) (n : ℕ) → Promise rules f h s n → RulePromise f h s n
 rule-promise f h s n p =
     let in_row : (i : ℕ) → i < s.numbers.standing → i < length p.runs = λ i lt. omega (arith, p.held.standing) in
     record {

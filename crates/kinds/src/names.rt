@@ -1,19 +1,43 @@
 // Names as a kind of entry.
-ghost use Rattle.std.specs.Prelude.{◌≡◌, ℕ, List, ◌∷◌, length};
-ghost use Rattle.kinds.specs.Longest.{name-longest};
-ghost use Rattle.kinds.specs.Names.{meets_name};
-ghost use Rattle.std.proofs.Common.{rules};
-
-use catalogue::fault::InputFault;
+use catalogue::fault::Numbered;
 use catalogue::kind::Kind;
 use hashing::hasher::Hasher;
+
+/// Why a run of bytes is no name.
+#[derive(Clone, Copy, Debug, PartialEq, Eq)]
+pub enum NameFault {
+    // longer than 255 bytes
+    TooLong,
+    Empty,
+}
+
+impl Numbered for NameFault {
+    ghost use Rattle.kinds.specs.Numbers.{name_number};
+
+    ghost number = { name_number };
+
+    fn number(self) -> u8 {
+        match self {
+            NameFault::TooLong => 1,
+            NameFault::Empty => 2,
+        }
+    }
+}
 
 /// Names of 1 to 255 bytes. They are the same when they are equal.
 #[derive(Clone, Copy)]
 pub struct Names;
 
 impl Kind for Names {
+    ghost use Rattle.kinds.specs.Numbers.{one_name_fault};
+    ghost use Rattle.std.specs.Prelude.{◌≡◌, ℕ, List, ◌∷◌, length};
+    ghost use Rattle.kinds.specs.Longest.{name-longest};
+    ghost use Rattle.kinds.specs.Names.{meets_name};
+    ghost use Rattle.std.proofs.Common.{rules};
+
     type Unit = u8;
+
+    type Fault = NameFault;
 
     const LONGEST: usize = 255;
 
@@ -25,6 +49,8 @@ impl Kind for Names {
 
     ghost feed = { λ k f bytes. length bytes ∷ bytes };
 
+    ghost one_fault = { one_name_fault };
+
     ghost longest = { λ k bytes. name-longest bytes };
 
     ghost reflexive = { Prim.search rules };
@@ -35,12 +61,12 @@ impl Kind for Names {
 
     ghost one_hash = { Prim.search rules };
 
-    fn intake(&self, run: &[u8]) -> Result<(), InputFault> {
+    fn intake(&self, run: &[u8]) -> Result<(), NameFault> {
         if run.len() > Names::LONGEST {
-            return Err(InputFault { number: 1 });
+            return Err(NameFault::TooLong);
         }
-        if run.len() == 0 {
-            return Err(InputFault { number: 2 });
+        if run.is_empty() {
+            return Err(NameFault::Empty);
         }
         Ok(())
     }

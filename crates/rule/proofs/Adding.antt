@@ -1,10 +1,26 @@
 -- The children of a node counted as seen, one after the other.
-use Rattle.std.proofs.Common.{◌≡◌, ℕ, ◌+◌, ◌-◌, ◌<◌, List, length, get_or, set, sym, refl, ap, ◌∙◌, ⊎_elim, arith, below_none, below_more}
+use Rattle.std.proofs.Common.{◌≡◌, ℕ, ◌+◌, ◌-◌, ◌<◌, ◌≤◌, Bool, true, false, List, length, get_or, set, sym, refl, ap, ◌∙◌, subst, ⊎_elim, arith, below_none, below_more}
 use Rattle.std.proofs.lemmas.Bool.{cases_eq}
-use Rattle.std.proofs.lemmas.List.{get_or-set_same, get_or-set_other}
+use Rattle.std.proofs.lemmas.List.{get_or-set_same, get_or-set_other, map-set, length-map}
+use Rattle.std.proofs.Math.ListN.{get_or-map}
 use Rattle.rule.specs.Run.{standing, kids_at, kid_at}
-use Rattle.rule.specs.Tally.{sizes_of, loose, AtMostOnce, Added, Clash, twice}
+use Rattle.rule.specs.Tally.{sizes_of, loose, flag, flags, AtMostOnce, Added, Clash, twice}
 use Rattle.rule.proofs.Counting.{hit, hit_same, hit_other, standing-more, sizes-more, standing-end, sizes-end, loose-taken}
+
+---- flags as numbers
+
+pub flag-at : (seen : List Bool) (x : ℕ) → get_or (flags seen) x 0 ≡ flag (get_or seen x false)
+flag-at seen x = get_or-map flag seen x false
+
+pub flagged : (seen : List Bool) → AtMostOnce (flags seen)
+flagged seen x = go (get_or seen x false) (flag-at seen x)
+  where
+    go : (b : Bool) → get_or (flags seen) x 0 ≡ flag b → get_or (flags seen) x 0 ≤ 1
+    go true e = omega arith
+    go false e = omega arith
+
+pub flags-length : (seen : List Bool) → length (flags seen) ≡ length seen
+flags-length seen = length-map seen flag
 
 -- after q of the children of the node i, which begins at o
 pub record Adding (ws : List ℕ) (o i : ℕ) (seen₀ seen sizes : List ℕ) (total q : ℕ) : Type 0 where
@@ -75,3 +91,18 @@ module _ (ws : List ℕ) (o i : ℕ) (seen₀ : List ℕ) where
   adding-twice seen sizes total q h b n a =
       twice (kid_at ws o q) b
       (omega (arith, a.counts (kid_at ws o q), standing-more (kid_at ws o q) ws (o + 4) q (kids_at ws o) h, hit_same (kid_at ws o q) ws (o + 4 + q) refl))
+
+  ---- the same by flags, for the child k that the node names
+
+  pub kid-more : (seen : List Bool) (sizes : List ℕ) (total q k : ℕ) → k ≡ kid_at ws o q → q < kids_at ws o → k < i → k < length seen → k < length sizes → get_or seen k false ≡ false
+      → Adding ws o i seen₀ (flags seen) sizes total q → Adding ws o i seen₀ (flags (set seen k true)) sizes (total + get_or sizes k 0) (q + 1)
+  kid-more seen sizes total q k e h b m n z a =
+      let y : get_or (flags seen) k 0 ≡ 0 = flag-at seen k ∙ ap flag z in
+      subst (λ s. Adding ws o i seen₀ s sizes (total + get_or sizes k 0) (q + 1)) (sym (map-set flag seen k true))
+      (subst (λ j. Adding ws o i seen₀ (set (flags seen) j 1) sizes (total + get_or sizes j 0) (q + 1)) (sym e)
+      (adding-more (flags seen) sizes total q h (omega arith) (omega (arith, flags-length seen)) (omega arith) (subst (λ j. get_or (flags seen) j 0 ≡ 0) e y) a))
+
+  pub kid-twice : (seen : List Bool) (sizes : List ℕ) (total q k : ℕ) → k ≡ kid_at ws o q → q < kids_at ws o → k < i → get_or seen k false ≡ true → Adding ws o i seen₀ (flags seen) sizes total q → Clash ws o i seen₀
+  kid-twice seen sizes total q k e h b t a =
+      let y : get_or (flags seen) k 0 ≡ 1 = flag-at seen k ∙ ap flag t in
+      adding-twice (flags seen) sizes total q h (omega arith) (λ z. let w : get_or (flags seen) (kid_at ws o q) 0 ≡ 1 = subst (λ j. get_or (flags seen) j 0 ≡ 1) e y in omega arith) a

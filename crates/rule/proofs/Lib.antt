@@ -7,6 +7,8 @@ pub mod Grown
 pub mod Tallying
 pub mod Fitting
 pub mod Walked
+pub mod Marking
+pub mod Spelling
 pub mod Noted
 pub mod Scoping
 pub mod Roles

@@ -1,7 +1,7 @@
 -- The row of a node is found among the rows of its code.
-use Rattle.std.proofs.Common.{◌≡◌, ℕ, zero, suc, ◌+◌, ◌<◌, ◌≤◌, Bool, true, false, ◌&&◌, eqb, leb, ◌⊎◌, List, [], ◌∷◌, length, get_or, take, drop, Some, None, sym, refl, ap, ◌∙◌, subst, inl, inr, arith}
+use Rattle.std.proofs.Common.{◌≡◌, ℕ, zero, suc, ◌+◌, ◌-◌, ◌<◌, ◌≤◌, Bool, true, false, ◌&&◌, eqb, leb, ◌⊎◌, List, [], ◌∷◌, length, get_or, take, drop, Some, None, sym, refl, ap, ◌∙◌, subst, inl, inr, arith}
 use Rattle.std.proofs.lemmas.Bool.{and_parts, cases_Bool, ne_eqb, cond-true, cond-false, leb-true, false≢true}
-use Rattle.std.proofs.lemmas.List.{drop_more}
+use Rattle.std.proofs.lemmas.List.{drop_more, get_or-drop, get_or-take}
 use Rattle.rule.specs.declared.rows.Row.{Row}
 use Rattle.rule.specs.Format.{format, within}
 use Rattle.rule.specs.Lookup.{takes, sought, row_of, apart, placed}
@@ -107,3 +107,13 @@ try-next rs k c x y d e h t i =
 
 pub try-none : (k f c x y : ℕ) → k ≡ f + 3 → Standing c f → row_of c x y ≡ sought (drop k format) c x y → None ≡ row_of c x y
 try-none k f c x y e s i = sym (i ∙ ap (λ n. sought (drop n format) c x y) e ∙ sought-none _ c x y s.back)
+
+-- the rows of a code are three of the format's, from its place on
+pub standing : (ks : List ℕ) (c : ℕ) → placed 0 ks ≡ true → c < length ks → Standing c (get_or ks c 0)
+standing ks c h l =
+    let e : 0 + c ≡ c = omega arith in
+    subst (λ a. Standing a (get_or ks c 0)) e (standing-at ks 0 c h l)
+
+-- one of the three rows from f on
+pub row-in : (rs : List Row) (f k : ℕ) (d : Row) → k < f + 3 - f → get_or (take (f + 3 - f) (drop f rs)) k d ≡ get_or rs (f + k) d
+row-in rs f k d h = get_or-take (f + 3 - f) (drop f rs) k d h ∙ get_or-drop f rs k d

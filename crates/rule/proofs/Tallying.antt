@@ -1,15 +1,41 @@
 -- The nodes of a run found to be a tree, one after the other.
-use Rattle.std.proofs.Common.{◌≡◌, ℕ, ◌+◌, ◌-◌, ◌<◌, ◌≤◌, ◌≢◌, List, length, get_or, drop, set, sym, ap, ◌∙◌, subst, ⊎_elim, arith, length-set, below_none, below_more}
-use Rattle.std.proofs.lemmas.Bool.{cases_eq}
-use Rattle.std.proofs.lemmas.List.{get_or-set_same, get_or-set_other}
+use Rattle.std.proofs.Common.{◌≡◌, ℕ, zero, suc, ◌+◌, ◌-◌, ◌<◌, ◌≤◌, ◌≢◌, Bool, true, false, ◌||◌, List, [], ◌∷◌, length, get_or, take, drop, replicate, set, sym, refl, ap, ◌∙◌, subst, ⊎_elim, arith, length-set, below_none, below_more}
+use Rattle.std.proofs.lemmas.Bool.{cases_eq, cases_lt, false≢true}
+use Rattle.std.specs.List.{list_any}
+use Rattle.std.proofs.lemmas.List.{get_or-set_same, get_or-set_other, get_or-replicate, get_or_past, length-replicate}
+use Rattle.rule.proofs.Adding.{flag-at}
 use Rattle.rule.specs.Run.{child_of, kids_at, kid_at, offsets}
 use Rattle.rule.specs.Trees.{tree_at}
 use Rattle.rule.specs.Marks.{size}
 use Rattle.rule.specs.Intake.{Read, Treelike, nodes, offset}
-use Rattle.rule.specs.Tally.{loose, sizes_of, AtMostOnce, Added, Clash, high, twice, Sized}
+use Rattle.rule.specs.Tally.{flag, flags, loose, sizes_of, AtMostOnce, Added, Clash, high, twice, Sized}
 use Rattle.rule.proofs.Counting.{child-more, child-end, standing-none, loose-sized, loose-zero}
 use Rattle.rule.proofs.Grown.{size-at}
 use Rattle.rule.proofs.Laid.{read-nodes, read-offset}
+
+---- what was no child
+
+rest-false : (b y : Bool) → (b || y) ≡ false → y ≡ false
+rest-false true y t = absurd (false≢true (sym t))
+rest-false false y t = t
+
+pub some-unseen : (p : Bool → Bool) (n : ℕ) (seen : List Bool) → p true ≡ false → list_any p (take n seen) ≡ true → (x : ℕ) × (x < n) × (get_or (flags seen) x 0 ≡ 0)
+some-unseen p zero seen f t = absurd (false≢true t)
+some-unseen p (suc n) [] f t = absurd (false≢true t)
+some-unseen p (suc n) (false ∷ seen) f t = (0, omega arith, refl)
+some-unseen p (suc n) (true ∷ seen) f t =
+    let r = some-unseen p n seen f (ap (λ b. b || list_any p (take n seen)) (sym f) ∙ t) in
+    (suc r.0, omega (arith, r.1), r.2)
+
+pub none-unseen : (p : Bool → Bool) (n : ℕ) (seen : List Bool) → p false ≡ true → n ≤ length seen → list_any p (take n seen) ≡ false → (x : ℕ) → x < n → get_or (flags seen) x 0 ≢ 0
+none-unseen p zero seen f l t x h = absurd (omega arith)
+none-unseen p (suc n) [] f l t x h = absurd (omega arith)
+none-unseen p (suc n) (false ∷ seen) f l t x h = absurd (false≢true (sym t ∙ ap (λ b. b || list_any p (take n seen)) f))
+none-unseen p (suc n) (true ∷ seen) f l t zero h = λ e. omega arith
+none-unseen p (suc n) (true ∷ seen) f l t (suc x) h = none-unseen p n seen f (omega arith) (rest-false (p true) _ t) x (omega arith)
+
+pub unseen : (n x : ℕ) → ◌≡◌ {A = ℕ} (get_or (flags (replicate n false)) x 0) 0
+unseen n x = flag-at (replicate n false) x ∙ ap flag (⊎_elim (λ (h : x < n). get_or-replicate n x false false h) (λ (h : n ≤ x). get_or_past (replicate n false) x false (simp length-replicate (omega arith))) (cases_lt x n))
 
 -- after i nodes
 pub record Tallied (ws os seen sizes : List ℕ) (i : ℕ) : Type 0 where

@@ -7,7 +7,7 @@ use Rattle.rule.specs.declared.rows.Class.{Class}
 use Rattle.rule.specs.declared.rows.Class.TheVariants.{Absent}
 use Rattle.rule.specs.declared.rows.Row.{Row}
 use Rattle.rule.specs.Faults.{number_of}
-use Rattle.rule.specs.Format.{admits}
+use Rattle.rule.specs.Format.{admitted}
 use Rattle.rule.specs.Lookup.{row_of, enough, place_of, root}
 use Rattle.rule.specs.Run.{lacks, offsets, code_at, v_at, w_at, kids_at, kid_at, child_of}
 use Rattle.rule.specs.Trees.{tree_of}
@@ -53,7 +53,7 @@ class_at ws i = class_in (row_at ws (offset ws i))
 -- the children of the node that begins at o are as many as its row r has places for, and each is of its place's classes
 pub record KidsFit (ws : List ℕ) (o : ℕ) (r : Row) : Type 0 where
   pub count : enough r (kids_at ws o) ≡ true
-  pub each : (q : ℕ) → q < kids_at ws o → admits (place_of r (kids_at ws o) q) (class_at ws (kid_at ws o q)) ≡ true
+  pub each : (q : ℕ) → q < kids_at ws o → admitted (place_of r (kids_at ws o) q) (class_at ws (kid_at ws o q)) ≡ true
 
 -- the children of node i fit its row
 abbrev pub KidsPass : List ℕ → ℕ → Type 0

@@ -1,7 +1,9 @@
 pub mod Faults
 pub mod Format
+pub mod Comparisons
 pub mod Lookup
 pub mod Run
+pub mod Nodes
 pub mod Trees
 pub mod Scopes
 pub mod Marks

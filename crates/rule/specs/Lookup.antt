@@ -1,9 +1,8 @@
 -- The row of a node, and what helps to find it.
-use Rattle.std.specs.Prelude.{ℕ, ◌+◌, Bool, true, false, cond, ◌&&◌, List, [], ◌∷◌, take, drop, Some, None, Option, ◌==◌, nat_le, nat_lt}
+use Rattle.std.specs.Prelude.{ℕ, ◌+◌, Bool, true, false, cond, ◌&&◌, List, [], ◌∷◌, take, drop, Some, None, Option, ◌==◌, is_some, nat_le, nat_lt}
 use Rattle.rule.specs.declared.rows.Class.{Class}
 use Rattle.rule.specs.declared.rows.Class.TheVariants.{Expr, Pat, Ty, Block}
 use Rattle.rule.specs.declared.rows.Place.{Place}
-use Rattle.rule.specs.declared.rows.Place.TheVariants.{Nothing, One, Maybe, Either}
 use Rattle.rule.specs.declared.rows.Front.{Front}
 use Rattle.rule.specs.declared.rows.Row.{Row}
 use Rattle.rule.specs.Format.{format, within, serves}
@@ -22,25 +21,19 @@ row_of c x y = sought format c x y
 
 ---- the place of a child
 
-abbrev pub is_nothing : Place → Bool
-is_nothing Nothing = true
-is_nothing (One c) = false
-is_nothing (Maybe c) = false
-is_nothing (Either c d) = false
-
 -- how many places stand behind the repeated ones
 abbrev pub behind : Row → ℕ
-behind r = cond (is_nothing r.last) 0 1
+behind r = cond (is_some r.last) 1 0
 
-abbrev pub front_at : Front → ℕ → Place
+abbrev pub front_at : Front → ℕ → Option Place
 front_at f q = cond (q == 0) f.a (cond (q == 1) f.b (cond (q == 2) f.c f.d))
 
 -- a node of this row may have n children: as many as the row has places, or, where one place is repeated, no fewer than the others
 abbrev pub enough : Row → ℕ → Bool
-enough r n = cond (is_nothing r.many) (n == r.count) (nat_le (r.count + behind r) n)
+enough r n = cond (is_some r.many) (nat_le (r.count + behind r) n) (n == r.count)
 
 -- the place of child q of n: the first ones in front, the last one behind, the repeated one between
-abbrev pub place_of : Row → ℕ → ℕ → Place
+abbrev pub place_of : Row → ℕ → ℕ → Option Place
 place_of r n q = cond (nat_lt q r.count) (front_at r.front q) (cond (nat_lt (q + behind r) n) r.many r.last)
 
 -- the root is an expression, a block, a pattern or a type

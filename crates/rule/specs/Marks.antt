@@ -1,7 +1,9 @@
 -- What the walk notes of each local, by one number: 0 before it is met; where it is declared, the place in the walk at which
 -- the innermost operand of a comparison around the declaration ends (or the whole walk); 65535 where it is used and not declared before.
-use Rattle.std.specs.Prelude.{◌≡◌, ℕ, ◌+◌, Bool, true, false, cond, List, [], ◌∷◌, ◌++◌, Ok, Err, Result, ◌==◌, nat_lt, slice_index, slice_set}
+use Rattle.std.specs.Prelude.{◌≡◌, ℕ, ◌+◌, Bool, true, false, cond, List, [], ◌∷◌, ◌++◌, map, Ok, Err, Result, ◌==◌, nat_lt, slice_index, slice_set}
 use Rattle.rule.specs.declared.fault.Fault.{Fault}
+use Rattle.rule.specs.declared.scopes.Mark.{Mark}
+use Rattle.rule.specs.declared.scopes.Mark.TheVariants.{Unmet, Free, UsableTo}
 use Rattle.rule.specs.declared.fault.Fault.TheVariants.{BadScope}
 use Rattle.rule.specs.Trees.{Tree, Forest, node, nil, cons}
 use Rattle.rule.specs.Scopes.{Role, declares, uses, plain, role, compares}
@@ -13,6 +15,15 @@ unfoldable mutual
   pub size_all : Forest → ℕ
   size_all nil = 0
   size_all (cons t ts) = size t + size_all ts
+
+-- the number that stands for what the walk has met of a local
+abbrev pub end : Mark → ℕ
+end Unmet = 0
+end Free = 65535
+end (UsableTo last) = last + 1
+
+abbrev pub ends : List Mark → List ℕ
+ends = map end
 
 -- one step of the walk: what it does, and the place at which the operand around it ends
 pub record Step : Type 0 where

@@ -1,5 +1,5 @@
 -- What is counted of the nodes while they are found to be a tree: how often each is a child, and how large its tree is.
-use Rattle.std.specs.Prelude.{◌≡◌, ℕ, zero, suc, ◌+◌, ◌<◌, ◌≤◌, cond, List, [], ◌∷◌, length, ◌==◌, slice_index}
+use Rattle.std.specs.Prelude.{◌≡◌, ℕ, zero, suc, ◌+◌, ◌<◌, ◌≤◌, Bool, true, false, cond, List, [], ◌∷◌, length, map, ◌==◌, slice_index}
 use Rattle.rule.specs.Run.{kids_at, kid_at, standing}
 use Rattle.rule.specs.Trees.{tree_at}
 use Rattle.rule.specs.Marks.{size}
@@ -15,6 +15,14 @@ unfoldable pub loose : List ℕ → List ℕ → ℕ
 loose [] sizes = 0
 loose (a ∷ seen) [] = 0
 loose (a ∷ seen) (b ∷ sizes) = cond (a == 0) b 0 + loose seen sizes
+
+-- what was a child so far, by number: 1, and else 0
+abbrev pub flag : Bool → ℕ
+flag true = 1
+flag false = 0
+
+abbrev pub flags : List Bool → List ℕ
+flags = map flag
 
 -- no node was a child more than once
 abbrev pub AtMostOnce : List ℕ → Type 0

@@ -1,8 +1,10 @@
-ghost use Rattle.std.specs.Prelude.{◌≡◌};
+ghost use Rattle.std.specs.Prelude.{◌≡◌, Some};
 ghost use Rattle.rule.specs.Faults.{ground_of, number_of};
 
+use std::fmt;
+
 // Why a run of words is no rule, in the order in which the grounds are tested.
-#[derive(Clone, Copy)]
+#[derive(Clone, Copy, Debug, PartialEq, Eq)]
 pub enum Fault {
     // longer than 8,192 words
     TooLong,
@@ -51,5 +53,14 @@ impl Fault {
                 "a local above 1023, declared twice, used before it is declared, or used outside its operand",
             Fault::SameAsNothing => "a code that is the same as nothing",
         }
+    }
+}
+
+// The ground.
+impl fmt::Display for Fault {
+    ghost output = { λ fault. Some (ground_of fault) };
+
+    fn fmt<W: fmt::Write>(&self, f: &mut fmt::Formatter<W>) -> fmt::Result {
+        f.write_str(self.ground())
     }
 }

@@ -1,12 +1,13 @@
-ghost use Rattle.std.specs.Prelude.{◌≡◌, ◌≤◌, length, MatchResult};
+ghost use Rattle.std.specs.Prelude.{◌≡◌, ◌≤◌, length, IfErr, OnOk, MatchResult};
 ghost use Rattle.rule.specs.Faults.{number_of};
-ghost use Rattle.rule.specs.Intake.{Accepted, Refused, Read, Comparable};
+ghost use Rattle.rule.specs.Intake.{Accepted, Refused, Comparable};
 
 use crate::classes::check_classes;
+use crate::codes::is_barred;
 use crate::fault::Fault;
 use crate::nodes::{Nodes, Rule, read_nodes};
 use crate::scopes::check_scopes;
-use crate::tree::check_tree;
+use crate::tree::{RuleTree, check_tree};
 use crate::words::check_words;
 
 // A run of words as a rule: the places of its nodes, or the first ground of 1 to 6 on which it is refused.
@@ -16,23 +17,27 @@ pub fn intake(words: &[u32]) -> Result<Nodes, Fault>
     let nodes = read_nodes(words)?;
     let rule = Rule {
         words,
-        at: &nodes.at[0..nodes.count],
+        at: nodes.places(),
     };
     check_words(rule)?;
     let sizes = check_tree(rule)?;
-    check_classes(rule)?;
-    check_scopes(rule, &sizes)?;
+    let tree = RuleTree {
+        rule,
+        sizes: &sizes,
+    };
+    check_classes(tree)?;
+    check_scopes(tree)?;
     Ok(nodes)
 }
 
 // No code of the rule is the same as nothing.
 fn check_comparable(rule: Rule) -> Result<(), Fault>
-    requires { Read rule.words.now rule.at.now }
-    ensures { MatchResult result (λ _. Comparable rule.entry.words.now) (λ f. (f ≡ Fault.SameAsNothing) × (Comparable rule.entry.words.now → ⊥)) }
+    ensures ok { OnOk result (Comparable rule.entry.words.now) }
+    ensures err { IfErr result (λ f. (f ≡ Fault.SameAsNothing) × (Comparable rule.entry.words.now → ⊥)) }
 {
+    // Kept: a node's number is what is tested here, and its children name it by that.
     for i in 0..rule.at.len() {
-        let p = rule.at[i] as usize;
-        if matches!(rule.words[p], 19 | 35 | 36 | 50 | 67) {
+        if is_barred(rule.known_node(i).code) {
             return Err(Fault::SameAsNothing);
         }
     }
@@ -46,7 +51,7 @@ pub fn intake_entry(words: &[u32]) -> Result<Nodes, Fault>
     let nodes = intake(words)?;
     check_comparable(Rule {
         words,
-        at: &nodes.at[0..nodes.count],
+        at: nodes.places(),
     })?;
     Ok(nodes)
 }

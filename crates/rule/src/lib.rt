@@ -1,6 +1,8 @@
 #![tactic(auto)]
 
 mod classes;
+pub mod codes;
+pub mod comparison;
 pub mod fault;
 pub mod intake;
 pub mod lookup;

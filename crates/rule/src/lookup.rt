@@ -1,17 +1,17 @@
 ghost use Rattle.std.specs.Prelude.{◌≡◌, ℕ, ◌+◌, ◌<◌, ◌≤◌, true, length};
-ghost use Rattle.rule.specs.Format.{format, within, rank, is_class, serves, admits};
-ghost use Rattle.rule.specs.Lookup.{takes, row_of, is_nothing, behind, front_at, enough, place_of, root, apart, placed};
+ghost use Rattle.rule.specs.Format.{format, within, serves, admits, admitted};
+ghost use Rattle.rule.specs.Lookup.{takes, row_of, behind, front_at, enough, place_of, root, apart, placed};
 
 use crate::rows::{Class, FIRST, Front, Place, ROWS, Row, Span};
 
 // The rows, and for each code the number of its first row.
-fn rows() -> &'static [Row; 83]
+fn rows() -> &'static [Row]
     ensures { result.now ≡ format }
 {
     &ROWS
 }
 
-fn firsts() -> &'static [u8; 117]
+fn firsts() -> &'static [u8]
     ensures places { placed 0 result.now ≡ true }
     ensures len { length result.now ≡ 117 }
 {
@@ -27,17 +27,11 @@ impl Span {
 }
 
 impl Class {
-    fn is(self, other: Class) -> bool
-        ensures { result ≡ is_class self other }
-    {
-        self as u8 == other as u8
-    }
-
     // A child of the class `kid` may stand where one of this class is wanted.
     fn takes_kid(self, kid: Class) -> bool
         ensures { result ≡ serves self kid }
     {
-        self.is(kid) || (self.is(Class::Pat) && kid.is(Class::EndPat))
+        self == kid || (self == Class::Pat && kid == Class::EndPat)
     }
 
     pub(crate) fn can_be_root(self) -> bool
@@ -51,28 +45,22 @@ impl Class {
 }
 
 impl Place {
-    fn is_nothing(self) -> bool
-        ensures { result ≡ is_nothing self }
-    {
-        matches!(self, Place::Nothing)
-    }
-
-    pub(crate) fn admits_kid(self, kid: Class) -> bool
+    fn admits_kid(self, kid: Class) -> bool
         ensures { result ≡ admits self kid }
     {
         match self {
-            Place::Nothing => false,
             Place::One(c) => c.takes_kid(kid),
-            Place::Maybe(c) => Class::Absent.is(kid) || c.takes_kid(kid),
+            Place::Maybe(c) => kid == Class::Absent || c.takes_kid(kid),
             Place::Either(c, d) => c.takes_kid(kid) || d.takes_kid(kid),
         }
     }
 }
 
 impl Front {
-    fn at(self, q: usize) -> Place
+    fn at(self, q: usize) -> Option<Place>
         ensures { result ≡ front_at self q }
     {
+        // Kept: by number, since the places are four fields and no array.
         match q {
             0 => self.a,
             1 => self.b,
@@ -92,23 +80,21 @@ impl Row {
     fn kids_behind(self) -> usize
         ensures { result ≡ behind self }
     {
-        if self.last.is_nothing() { 0 } else { 1 }
+        if self.last.is_some() { 1 } else { 0 }
     }
 
     // A node of this row may have `n` children.
     pub(crate) fn may_have(self, n: usize) -> bool
         ensures { result ≡ enough self n }
     {
-        if self.many.is_nothing() {
-            n == self.count
-        } else {
-            let behind = self.kids_behind();
-            self.count <= n && behind <= n - self.count
+        match self.many {
+            None => n == self.count,
+            Some(_) => self.count <= n && self.kids_behind() <= n - self.count,
         }
     }
 
     // The place of child `q` of `n`.
-    pub(crate) fn place_of(self, n: usize, q: usize) -> Place
+    fn place_of(self, n: usize, q: usize) -> Option<Place>
         requires { q < n }
         ensures { result ≡ place_of self n q }
     {
@@ -120,21 +106,27 @@ impl Row {
             self.last
         }
     }
+
+    // Child `q` of `n` may be of the class `kid`.
+    pub(crate) fn admits(self, n: usize, q: usize, kid: Class) -> bool
+        requires { q < n }
+        ensures { result ≡ admitted (place_of self n q) kid }
+    {
+        match self.place_of(n, q) {
+            Some(place) => place.admits_kid(kid),
+            None => false,
+        }
+    }
 }
 
 // The row that a node's words are within.
 pub fn row_of(code: u32, v: u32, w: u32) -> Option<Row>
     ensures { result ≡ row_of code v w }
 {
-    if code > 116 {
-        return None;
-    }
-    let rows = rows();
-    let first = firsts()[code as usize] as usize;
-    for k in first..first + 3 {
-        let row = rows[k];
+    let first = *firsts().get(code as usize)? as usize;
+    for row in &rows()[first..first + 3] {
         if row.is_for(code, v, w) {
-            return Some(row);
+            return Some(*row);
         }
     }
     None

@@ -1,6 +1,7 @@
-ghost use Rattle.std.specs.Prelude.{◌≡◌, ℕ, ◌≤◌, length, take, MatchResult};
+ghost use Rattle.std.specs.Prelude.{◌≡◌, ℕ, ◌+◌, ◌<◌, ◌≤◌, ◌↔◌, length, take, slice_index, IfSome, IsNone, IfOk, IfErr};
 ghost use Rattle.rule.specs.Faults.{number_of};
 ghost use Rattle.rule.specs.Intake.{Read, Refused};
+ghost use Rattle.rule.specs.Nodes.{Spelt};
 
 use crate::fault::Fault;
 
@@ -10,32 +11,92 @@ pub const MOST_WORDS: usize = 8192;
 pub const MOST_NODES: usize = 2048;
 
 // Where the nodes of a rule begin: the first `count` places of `at`.
+// Kept: an array and a count, since this crate uses no heap.
 #[derive(Clone, Copy)]
 pub struct Nodes {
     pub at: [u16; 2048],
     pub count: usize,
 }
 
-// A rule: its words, and the place of each node's first word.
+impl Nodes {
+    /// The places, in the order of the nodes.
+    pub fn places(&self) -> &[u16]
+        ensures { result.now ≡ take self.now.count self.now.at }
+    {
+        &self.at[0..self.count.min(MOST_NODES)]
+    }
+}
+
+/// A node: its code, its two words, and the numbers of its children.
 #[derive(Clone, Copy)]
-pub struct Rule<'a> {
-    pub words: &'a [u32],
-    pub at: &'a [u16],
+pub struct Node<'a> {
+    pub code: u32,
+    pub v: u32,
+    pub w: u32,
+    pub kids: &'a [u32],
+}
+
+/// A rule: its words, and the place of each node's first word.
+#[derive(Clone, Copy)]
+pub struct Rule<'w, 'p> {
+    pub words: &'w [u32],
+    pub at: &'p [u16],
+    ghost read: { Read words.now at.now },
+}
+
+impl<'w, 'p> Rule<'w, 'p> {
+    /// Node `i`, if there is one.
+    pub fn node(self, i: usize) -> Option<Node<'w>>
+        ensures some { IfSome result (λ n. Spelt self.entry.words.now (slice_index self.entry.at.now i) n) }
+        ensures none { IsNone result ↔ (length self.entry.at.now ≤ i) }
+    {
+        if i < self.at.len() {
+            Some(self.known_node(i))
+        } else {
+            None
+        }
+    }
+
+    // Node `i`, which there is.
+    #[tactic(auto, using(crate::proofs::Laid::read_fits))]
+    pub(crate) fn known_node(self, i: usize) -> Node<'w>
+        requires { i < length self.at.now }
+        ensures { Spelt self.entry.words.now (slice_index self.entry.at.now i) result }
+    {
+        let place = self.at[i] as usize;
+        let first = place + 4;
+        let kids = self.words[place + 3] as usize;
+        Node {
+            code: self.words[place],
+            v: self.words[place + 1],
+            w: self.words[place + 2],
+            kids: &self.words[first..first + kids],
+        }
+    }
+
+    /// The number of the root, which is the last node.
+    pub fn root(self) -> usize
+        ensures { result + 1 ≡ length self.entry.at.now }
+    {
+        self.at.len() - 1
+    }
 }
 
 // The nodes of a run of words; a run that is too long, empty, or ends inside a node has none.
 pub(crate) fn read_nodes(words: &[u32]) -> Result<Nodes, Fault>
-    ensures { MatchResult result (λ n. Read words.now (take n.count n.at) × (n.count ≤ 2048)) (λ f. Refused words.now f × (number_of f ≤ 2)) }
+    ensures ok { IfOk result (λ n. Read words.now (take n.count n.at) × (n.count ≤ 2048)) }
+    ensures err { IfErr result (λ f. Refused words.now f × (number_of f ≤ 2)) }
 {
     if words.len() > MOST_WORDS {
         return Err(Fault::TooLong);
     }
-    if words.len() == 0 {
+    if words.is_empty() {
         return Err(Fault::CutShort);
     }
     let mut at = [0u16; MOST_NODES];
     let mut count = 0;
     let mut place = 0;
+    // Kept: the places are what it finds, and no two nodes need be of one length.
     while place < words.len() {
         if words.len() - place < 4 {
             return Err(Fault::CutShort);

@@ -1,5 +1,5 @@
 // What a node is: where it may stand as a child or as the root.
-#[derive(Clone, Copy)]
+#[derive(Clone, Copy, Debug, PartialEq, Eq)]
 pub enum Class {
     Absent,
     Expr,
@@ -28,8 +28,6 @@ pub struct Span {
 // Which classes a child's place takes.
 #[derive(Clone, Copy)]
 pub enum Place {
-    // there is no such place
-    Nothing,
     One(Class),
     // one of the class, or Absent
     Maybe(Class),
@@ -37,12 +35,13 @@ pub enum Place {
 }
 
 // The first places of a row: four at most.
+// Kept: four fields with their count, and no array, since the borrow checker does not cover a static of structs that hold arrays of enums.
 #[derive(Clone, Copy)]
 pub struct Front {
-    pub a: Place,
-    pub b: Place,
-    pub c: Place,
-    pub d: Place,
+    pub a: Option<Place>,
+    pub b: Option<Place>,
+    pub c: Option<Place>,
+    pub d: Option<Place>,
 }
 
 // What a node of one code may be. A code has as many rows as its words or its children have shapes.
@@ -56,9 +55,9 @@ pub struct Row {
     pub front: Front,
     pub count: usize,
     // the place that is repeated, as often as it takes, behind the first ones
-    pub many: Place,
+    pub many: Option<Place>,
     // the place behind the repeated ones
-    pub last: Place,
+    pub last: Option<Place>,
 }
 
 const ZERO: Span = Span { low: 0, high: 0 };
@@ -68,45 +67,45 @@ const ANY: Span = Span {
     high: 4294967295,
 };
 
-const NO: Place = Place::Nothing;
+const NO: Option<Place> = None;
 
-const ABSENT: Place = Place::One(Class::Absent);
+const ABSENT: Option<Place> = Some(Place::One(Class::Absent));
 
-const E: Place = Place::One(Class::Expr);
+const E: Option<Place> = Some(Place::One(Class::Expr));
 
-const P: Place = Place::One(Class::Pat);
+const P: Option<Place> = Some(Place::One(Class::Pat));
 
-const T: Place = Place::One(Class::Ty);
+const T: Option<Place> = Some(Place::One(Class::Ty));
 
-const Q: Place = Place::One(Class::QPath);
+const Q: Option<Place> = Some(Place::One(Class::QPath));
 
-const S: Place = Place::One(Class::Segment);
+const S: Option<Place> = Some(Place::One(Class::Segment));
 
-const C: Place = Place::One(Class::Const);
+const C: Option<Place> = Some(Place::One(Class::Const));
 
-const L: Place = Place::One(Class::Lit);
+const L: Option<Place> = Some(Place::One(Class::Lit));
 
-const B: Place = Place::One(Class::Block);
+const B: Option<Place> = Some(Place::One(Class::Block));
 
-const STMT: Place = Place::One(Class::Stmt);
+const STMT: Option<Place> = Some(Place::One(Class::Stmt));
 
-const ARM: Place = Place::One(Class::Arm);
+const ARM: Option<Place> = Some(Place::One(Class::Arm));
 
-const EXPR_FIELD: Place = Place::One(Class::ExprField);
+const EXPR_FIELD: Option<Place> = Some(Place::One(Class::ExprField));
 
-const PAT_FIELD: Place = Place::One(Class::PatField);
+const PAT_FIELD: Option<Place> = Some(Place::One(Class::PatField));
 
-const MAYBE_E: Place = Place::Maybe(Class::Expr);
+const MAYBE_E: Option<Place> = Some(Place::Maybe(Class::Expr));
 
-const MAYBE_P: Place = Place::Maybe(Class::Pat);
+const MAYBE_P: Option<Place> = Some(Place::Maybe(Class::Pat));
 
-const MAYBE_T: Place = Place::Maybe(Class::Ty);
+const MAYBE_T: Option<Place> = Some(Place::Maybe(Class::Ty));
 
-const MAYBE_B: Place = Place::Maybe(Class::Block);
+const MAYBE_B: Option<Place> = Some(Place::Maybe(Class::Block));
 
-const MAYBE_END: Place = Place::Maybe(Class::EndPat);
+const MAYBE_END: Option<Place> = Some(Place::Maybe(Class::EndPat));
 
-const T_OR_C: Place = Place::Either(Class::Ty, Class::Const);
+const T_OR_C: Option<Place> = Some(Place::Either(Class::Ty, Class::Const));
 
 const NO_FRONT: Front = Front {
     a: NO,

@@ -1,22 +1,29 @@
-ghost use Rattle.std.specs.Prelude.{◌≡◌, ℕ, ◌+◌, ◌<◌, ◌≤◌, length, MatchResult};
+ghost use Rattle.std.specs.Prelude.{◌≡◌, ℕ, ◌+◌, ◌<◌, ◌≤◌, length, OnOk, IfErr};
 ghost use Rattle.rule.specs.Trees.{tree_at};
 ghost use Rattle.rule.specs.Scopes.{role, compares};
-ghost use Rattle.rule.specs.Marks.{size, steps, end_of, at_declaration, at_use, note, note_all, Says};
-ghost use Rattle.rule.specs.Intake.{Read, Treelike, Scoped};
-ghost use Rattle.rule.specs.Tally.{Sized};
+ghost use Rattle.rule.specs.Marks.{size, steps, end_of, ends, at_declaration, at_use, note, note_all, Says};
+ghost use Rattle.rule.specs.Intake.{Scoped};
 
+use crate::codes::{BINARY, BINDING, PATH};
+use crate::comparison::Comparison;
 use crate::fault::Fault;
-use crate::nodes::Rule;
+use crate::nodes::Node;
+use crate::tree::RuleTree;
 
-// How many locals a rule may have, and the mark of one that is used and not declared before.
-const LOCALS: u32 = 1024;
+// What the walk has met of a local.
+#[derive(Clone, Copy)]
+pub(crate) enum Mark {
+    Unmet,
+    // a use, and no declaration before it
+    Free,
+    // a declaration; this is the last place in the walk at which the local may be used
+    UsableTo(u16),
+}
 
-const FREE: u16 = 65535;
-
-fn is_comparison(code: u32, v: u32) -> bool
-    ensures { result ≡ compares code v }
+fn is_comparison(node: Node) -> bool
+    ensures { result ≡ compares node.entry.code node.entry.v }
 {
-    code == 14 && 12 <= v && v <= 17
+    node.code == BINARY && Comparison::of(node.v).is_some()
 }
 
 // Where the innermost operand around a child ends: with the child, if it is one itself.
@@ -26,99 +33,98 @@ fn operand_end(fork: bool, end: usize, until: usize) -> usize
     if fork { end } else { until }
 }
 
-// A local declared; it may be used up to the place `until`.
-fn declare(local: u32, until: usize, marks: &mut [u16]) -> Result<(), Fault>
-    requires { (length marks.old ≡ 1024) × (until ≤ 2048) }
-    ensures { Says result marks.new (at_declaration local until marks.old) }
+// A local declared; it may be used before the place `until`.
+fn declare(local: u32, until: usize, marks: &mut [Mark]) -> Result<(), Fault>
+    requires room { length marks.old ≡ 1024 }
+    requires some { 0 < until }
+    requires few { until ≤ 2048 }
+    ensures { Says result (ends marks.new) (at_declaration local until (ends marks.old)) }
 {
-    if local >= LOCALS {
-        return Err(Fault::BadScope);
+    match marks.get(local as usize) {
+        Some(Mark::Unmet) => {
+            marks[local as usize] = Mark::UsableTo((until - 1) as u16);
+            Ok(())
+        }
+        Some(Mark::Free) => Err(Fault::BadScope),
+        Some(Mark::UsableTo(_)) => Err(Fault::BadScope),
+        None => Err(Fault::BadScope),
     }
-    if marks[local as usize] != 0 {
-        return Err(Fault::BadScope);
-    }
-    marks[local as usize] = until as u16;
-    Ok(())
 }
 
 // A local used at `place`.
-fn use_local(local: u32, place: usize, marks: &mut [u16]) -> Result<(), Fault>
-    requires { length marks.old ≡ 1024 }
-    ensures { Says result marks.new (at_use place local marks.old) }
+fn use_local(local: u32, place: usize, marks: &mut [Mark]) -> Result<(), Fault>
+    requires room { length marks.old ≡ 1024 }
+    requires few { place ≤ 2048 }
+    ensures { Says result (ends marks.new) (at_use place local (ends marks.old)) }
 {
-    if local >= LOCALS {
-        return Err(Fault::BadScope);
+    match marks.get(local as usize) {
+        Some(Mark::Unmet) => {
+            marks[local as usize] = Mark::Free;
+            Ok(())
+        }
+        Some(Mark::Free) => Ok(()),
+        Some(Mark::UsableTo(last)) => {
+            if place <= *last as usize {
+                Ok(())
+            } else {
+                Err(Fault::BadScope)
+            }
+        }
+        None => Err(Fault::BadScope),
     }
-    let until = marks[local as usize];
-    if until == 0 {
-        marks[local as usize] = FREE;
-        return Ok(());
-    }
-    if place >= until as usize {
-        return Err(Fault::BadScope);
-    }
-    Ok(())
 }
 
 // What a node does with a local: a binding declares one, a path to a local uses one.
-fn note_node(
-    code: u32,
-    v: u32,
-    w: u32,
-    place: usize,
-    until: usize,
-    marks: &mut [u16],
-) -> Result<(), Fault>
-    requires { (length marks.old ≡ 1024) × (until ≤ 2048) }
-    ensures { Says result marks.new (note place (role code v w) until marks.old) }
+fn note_node(node: Node, place: usize, until: usize, marks: &mut [Mark]) -> Result<(), Fault>
+    requires room { length marks.old ≡ 1024 }
+    requires before { place < until }
+    requires few { until ≤ 2048 }
+    ensures { Says result (ends marks.new) (note place (role node.entry.code node.entry.v node.entry.w) until (ends marks.old)) }
 {
-    if code == 41 {
-        return declare(v, until, marks);
+    if node.code == BINDING {
+        return declare(node.v, until, marks);
     }
-    if code == 70 && v == 0 {
-        return use_local(w, place, marks);
+    // Kept: v is a word of the format, of which this code asks the first number alone.
+    if node.code == PATH && node.v == 0 {
+        return use_local(node.w, place, marks);
     }
     Ok(())
 }
 
 // The walk of node `i`, the children in row order and then the node, from `place` on, in an operand that ends at `until`.
 fn walk_scopes(
-    rule: Rule,
-    sizes: &[u16],
+    tree: RuleTree,
     i: usize,
     place: usize,
     until: usize,
-    marks: &mut [u16],
+    marks: &mut [Mark],
 ) -> Result<(), Fault>
-    requires read { (Read rule.words.now rule.at.now) × (i < length rule.at.now) }
-    requires treelike { (Treelike rule.words.now) × (Sized rule.words.now sizes.now) }
-    requires room { (place + size (tree_at rule.words.now i) ≤ until) × ((until ≤ 2048) × (length marks.old ≡ 1024)) }
-    ensures { Says result marks.new (note_all place (steps place until (tree_at rule.entry.words.now i)) marks.old) }
+    requires inside { i < length tree.rule.at.now }
+    requires fits { place + size (tree_at tree.rule.words.now i) ≤ until }
+    requires few { until ≤ 2048 }
+    requires room { length marks.old ≡ 1024 }
+    ensures { Says result (ends marks.new) (note_all place (steps place until (tree_at tree.entry.rule.words.now i)) (ends marks.old)) }
 {
-    let p = rule.at[i] as usize;
-    let code = rule.words[p];
-    let v = rule.words[p + 1];
-    let n = rule.words[p + 3] as usize;
-    let fork = is_comparison(code, v);
+    let node = tree.rule.known_node(i);
+    let fork = is_comparison(node);
     let mut at = place;
-    for q in 0..n {
-        let kid = rule.words[p + 4 + q] as usize;
-        let end = at + sizes[kid] as usize;
-        let within = operand_end(fork, end, until);
-        walk_scopes(rule, sizes, kid, at, within, marks)?;
+    for kid in node.kids {
+        let kid = *kid as usize;
+        let end = at + tree.sizes[kid] as usize;
+        walk_scopes(tree, kid, at, operand_end(fork, end, until), marks)?;
         at = end;
     }
-    note_node(code, v, rule.words[p + 2], at, until, marks)
+    note_node(node, at, until, marks)
 }
 
 // No local is above 1,023, declared twice, used earlier in the walk than declared,
 // or declared under one operand of a comparison and used outside that operand.
-pub(crate) fn check_scopes(rule: Rule, sizes: &[u16]) -> Result<(), Fault>
-    requires read { Read rule.words.now rule.at.now }
-    requires treelike { (Treelike rule.words.now) × (Sized rule.words.now sizes.now) }
-    ensures { MatchResult result (λ _. Scoped rule.entry.words.now) (λ f. (f ≡ Fault.BadScope) × (Scoped rule.entry.words.now → ⊥)) }
+pub(crate) fn check_scopes(tree: RuleTree) -> Result<(), Fault>
+    ensures ok { OnOk result (Scoped tree.entry.rule.words.now) }
+    ensures err { IfErr result (λ f. (f ≡ Fault.BadScope) × (Scoped tree.entry.rule.words.now → ⊥)) }
 {
-    let mut marks = [0u16; 1024];
-    let last = rule.at.len() - 1;
-    walk_scopes(rule, sizes, last, 0, sizes[last] as usize, &mut marks)
+    // Kept: an array with a place for each local, since this crate uses no heap.
+    let mut marks = [Mark::Unmet; 1024];
+    let root = tree.rule.root();
+    walk_scopes(tree, root, 0, tree.sizes[root] as usize, &mut marks)
 }

@@ -1,29 +1,35 @@
-ghost use Rattle.std.specs.Prelude.{◌≡◌, ℕ, ◌<◌, ◌≤◌, length, MatchResult, slice_index};
-ghost use Rattle.rule.specs.Intake.{Read, Treelike};
-ghost use Rattle.rule.specs.Tally.{AtMostOnce, Added, Clash, Sized, loose};
+ghost use Rattle.std.specs.Prelude.{◌≡◌, ℕ, ◌<◌, ◌≤◌, length, IfOk, IfErr, slice_index};
+ghost use Rattle.rule.specs.Intake.{Treelike};
+ghost use Rattle.rule.specs.Tally.{Added, Clash, Sized, flags, loose};
 
 use crate::fault::Fault;
 use crate::nodes::{MOST_NODES, Rule};
 
+/// A rule whose nodes make a tree, and how many nodes the tree of each node has.
+#[derive(Clone, Copy)]
+pub(crate) struct RuleTree<'w, 'p, 's> {
+    pub rule: Rule<'w, 'p>,
+    pub sizes: &'s [u16],
+    ghost treelike: { Treelike rule.words.now },
+    ghost sized: { Sized rule.words.now sizes.now },
+}
+
 // Counts the children of node `i` as seen, and answers how many nodes its tree has.
-fn add_kids(rule: Rule, i: usize, seen: &mut [u8], sizes: &[u16]) -> Result<usize, Fault>
-    requires read { (Read rule.words.now rule.at.now) × (i < length rule.at.now) }
-    requires seen_len { (length seen.old ≡ 2048) × (length sizes.now ≡ 2048) }
-    requires at_most_once { (AtMostOnce seen.old) × (loose seen.old sizes.now ≤ 2048) }
-    ensures { MatchResult result (λ total. Added rule.entry.words.now (slice_index rule.entry.at.now i) i seen.old seen.new sizes.now total) (λ f. (f ≡ Fault.NotATree) × Clash rule.entry.words.now (slice_index rule.entry.at.now i) i seen.old) }
+fn add_kids(rule: Rule, i: usize, seen: &mut [bool], sizes: &[u16]) -> Result<usize, Fault>
+    requires inside { i < length rule.at.now }
+    requires seen_room { length seen.old ≡ 2048 }
+    requires sizes_room { length sizes.now ≡ 2048 }
+    requires few { loose (flags seen.old) sizes.now ≤ 2048 }
+    ensures ok { IfOk result (λ total. Added rule.entry.words.now (slice_index rule.entry.at.now i) i (flags seen.old) (flags seen.new) sizes.now total) }
+    ensures err { IfErr result (λ f. (f ≡ Fault.NotATree) × Clash rule.entry.words.now (slice_index rule.entry.at.now i) i (flags seen.old)) }
 {
-    let p = rule.at[i] as usize;
-    let n = rule.words[p + 3] as usize;
     let mut total = 1;
-    for q in 0..n {
-        let kid = rule.words[p + 4 + q] as usize;
-        if kid >= i {
+    for kid in rule.known_node(i).kids {
+        let kid = *kid as usize;
+        if kid >= i || seen[kid] {
             return Err(Fault::NotATree);
         }
-        if seen[kid] != 0 {
-            return Err(Fault::NotATree);
-        }
-        seen[kid] = 1;
+        seen[kid] = true;
         total += sizes[kid] as usize;
     }
     Ok(total)
@@ -31,20 +37,19 @@ fn add_kids(rule: Rule, i: usize, seen: &mut [u8], sizes: &[u16]) -> Result<usiz
 
 // Every child is below its node, and every node before the last is a child exactly once; the sizes of the nodes' trees.
 pub(crate) fn check_tree(rule: Rule) -> Result<[u16; 2048], Fault>
-    requires { Read rule.words.now rule.at.now }
-    ensures { MatchResult result (λ sizes. Treelike rule.entry.words.now × Sized rule.entry.words.now sizes) (λ f. (f ≡ Fault.NotATree) × (Treelike rule.entry.words.now → ⊥)) }
+    ensures ok { IfOk result (λ sizes. Treelike rule.entry.words.now × Sized rule.entry.words.now sizes) }
+    ensures err { IfErr result (λ f. (f ≡ Fault.NotATree) × (Treelike rule.entry.words.now → ⊥)) }
 {
-    let mut seen = [0u8; MOST_NODES];
+    // Kept: arrays of the longest rule's length, since this crate uses no heap.
+    let mut seen = [false; MOST_NODES];
     let mut sizes = [0u16; MOST_NODES];
+    // Kept: a node's number is what is tested here, and its children name it by that.
     for i in 0..rule.at.len() {
         let total = add_kids(rule, i, &mut seen, &sizes)?;
         sizes[i] = total as u16;
     }
-    let last = rule.at.len() - 1;
-    for x in 0..last {
-        if seen[x] == 0 {
-            return Err(Fault::NotATree);
-        }
+    if seen[0..rule.root()].contains(&false) {
+        return Err(Fault::NotATree);
     }
     Ok(sizes)
 }

@@ -1,5 +1,5 @@
-ghost use Rattle.std.specs.Prelude.{◌≡◌, ◌<◌, length, Some, None, MatchResult};
-ghost use Rattle.rule.specs.Intake.{Read, Worded, row_at, offset};
+ghost use Rattle.std.specs.Prelude.{◌≡◌, ◌<◌, length, Some, None, IfOk, IfErr, OnOk};
+ghost use Rattle.rule.specs.Intake.{Worded, row_at, offset};
 
 use crate::fault::Fault;
 use crate::lookup::row_of;
@@ -8,21 +8,20 @@ use crate::rows::Row;
 
 // The row of node `i`.
 pub(crate) fn row_at(rule: Rule, i: usize) -> Result<Row, Fault>
-    requires { (Read rule.words.now rule.at.now) × (i < length rule.at.now) }
-    ensures { MatchResult result (λ row. row_at rule.entry.words.now (offset rule.entry.words.now i) ≡ Some row) (λ f. (f ≡ Fault.OutsideRow) × (row_at rule.entry.words.now (offset rule.entry.words.now i) ≡ None)) }
+    requires { i < length rule.at.now }
+    ensures ok { IfOk result (λ row. row_at rule.entry.words.now (offset rule.entry.words.now i) ≡ Some row) }
+    ensures err { IfErr result (λ f. (f ≡ Fault.OutsideRow) × (row_at rule.entry.words.now (offset rule.entry.words.now i) ≡ None)) }
 {
-    let p = rule.at[i] as usize;
-    match row_of(rule.words[p], rule.words[p + 1], rule.words[p + 2]) {
-        Some(row) => Ok(row),
-        None => Err(Fault::OutsideRow),
-    }
+    let node = rule.known_node(i);
+    row_of(node.code, node.v, node.w).ok_or(Fault::OutsideRow)
 }
 
 // Every node has a row that its words are within.
 pub(crate) fn check_words(rule: Rule) -> Result<(), Fault>
-    requires { Read rule.words.now rule.at.now }
-    ensures { MatchResult result (λ _. Worded rule.entry.words.now) (λ f. (f ≡ Fault.OutsideRow) × (Worded rule.entry.words.now → ⊥)) }
+    ensures ok { OnOk result (Worded rule.entry.words.now) }
+    ensures err { IfErr result (λ f. (f ≡ Fault.OutsideRow) × (Worded rule.entry.words.now → ⊥)) }
 {
+    // Kept: a node's number is what is tested here, and its children name it by that.
     for i in 0..rule.at.len() {
         let _ = row_at(rule, i)?;
     }

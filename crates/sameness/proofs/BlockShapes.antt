@@ -1,23 +1,24 @@
 -- The shape of a node by its code and by how many children it has, and what a block expression of each shape comes to.
-use Rattle.std.proofs.Common.{◌≡◌, ℕ, zero, suc, true, false, ◌&&◌, eqb, ◌⊎◌, List, sym, refl, ap, ◌∙◌, inl, inr, arith}
+use Rattle.std.proofs.Common.{◌≡◌, ℕ, true, false, ◌&&◌, eqb, ◌⊎◌, List, [], ◌∷◌, length, sym, refl, ap, ◌∙◌, inl, inr, arith}
 use Rattle.std.proofs.lemmas.Bool.{eq-eqb, ne_eqb, cond-true, cond-false, and_left, and_right, and_from, or_left, or_right, or_from}
-use Rattle.rule.specs.Trees.{Tree, Forest, node, nil, cons, kids_of, trees_of}
+use Rattle.rule.specs.Trees.{Tree, Forest, node, nil, cons}
 use Rattle.sameness.specs.Blocks.{one}
 use Rattle.sameness.specs.Reduction.{kept, code_of, children_of, first_of, is_absent, is_return, returns, shape_of_body, shape_of_block, shape, shaped, reduce, reduce_all}
 use Rattle.sameness.specs.Sameness.{pair}
+use Rattle.sameness.specs.Walking.{trees_at}
 
 ---- tests on a tree
 
-pub absent-kids : (ws : List ℕ) (c v w p n : ℕ) → is_absent (node c v w (kids_of (trees_of ws) ws p n)) ≡ (eqb c 0 && eqb n 0)
-unfolding is_absent kids_of
-absent-kids ws c v w p zero = refl
-absent-kids ws c v w p (suc n) = ap (λ b. eqb c 0 && b) (sym (ne_eqb (suc n) 0 (λ e. omega arith)))
+pub absent-kids : (ws : List ℕ) (c v w : ℕ) (ks : List ℕ) → is_absent (node c v w (trees_at ws ks)) ≡ (eqb c 0 && eqb (length ks) 0)
+unfolding is_absent trees_at
+absent-kids ws c v w [] = refl
+absent-kids ws c v w (x ∷ ks) = ap (λ b. eqb c 0 && b) (sym (ne_eqb (length (x ∷ ks)) 0 (λ e. omega arith)))
 
-pub return-kids : (ws : List ℕ) (p n : ℕ) → (n ≡ 1 → ⊥) → is_return (kids_of (trees_of ws) ws p n) ≡ false
-unfolding is_return kids_of
-return-kids ws p zero h = refl
-return-kids ws p (suc zero) h = absurd (h refl)
-return-kids ws p (suc (suc n)) h = refl
+pub return-kids : (ws ks : List ℕ) → (length ks ≡ 1 → ⊥) → is_return (trees_at ws ks) ≡ false
+unfolding is_return trees_at
+return-kids ws [] h = refl
+return-kids ws (x ∷ []) h = absurd (h refl)
+return-kids ws (x ∷ (y ∷ ks)) h = refl
 
 ---- shapes
 
@@ -28,11 +29,11 @@ shape-code c nil h = refl
 shape-code c (cons t nil) h = cond-false (eqb c 15) _ _ (ne_eqb c 15 h)
 shape-code c (cons t (cons u ts)) h = refl
 
-pub shape-kids : (ws : List ℕ) (c p n : ℕ) → (n ≡ 1 → ⊥) → shape c (kids_of (trees_of ws) ws p n) ≡ kept
-unfolding shape kids_of
-shape-kids ws c p zero h = refl
-shape-kids ws c p (suc zero) h = absurd (h refl)
-shape-kids ws c p (suc (suc n)) h = refl
+pub shape-kids : (ws : List ℕ) (c : ℕ) (ks : List ℕ) → (length ks ≡ 1 → ⊥) → shape c (trees_at ws ks) ≡ kept
+unfolding shape trees_at
+shape-kids ws c [] h = refl
+shape-kids ws c (x ∷ []) h = absurd (h refl)
+shape-kids ws c (x ∷ (y ∷ ks)) h = refl
 
 -- a block expression over a block that is kept
 pub shape-block : (c : ℕ) (ts : Forest) (t : Tree) → c ≡ 15 → ts ≡ one t → shape_of_block t ≡ kept → shape c ts ≡ kept
@@ -51,12 +52,12 @@ pub block-body : (w : ℕ) (body : Forest) → shape_of_block (node 94 0 w body)
 unfolding shape_of_block
 block-body w body = refl
 
-pub body-kids : (ws : List ℕ) (p n : ℕ) → (n ≡ 1 → ⊥) → (n ≡ 2 → ⊥) → shape_of_body (kids_of (trees_of ws) ws p n) ≡ kept
-unfolding shape_of_body kids_of
-body-kids ws p zero h k = refl
-body-kids ws p (suc zero) h k = absurd (h refl)
-body-kids ws p (suc (suc zero)) h k = absurd (k refl)
-body-kids ws p (suc (suc (suc n))) h k = refl
+pub body-kids : (ws ks : List ℕ) → (length ks ≡ 1 → ⊥) → (length ks ≡ 2 → ⊥) → shape_of_body (trees_at ws ks) ≡ kept
+unfolding shape_of_body trees_at
+body-kids ws [] h k = refl
+body-kids ws (x ∷ []) h k = absurd (h refl)
+body-kids ws (x ∷ (y ∷ [])) h k = absurd (k refl)
+body-kids ws (x ∷ (y ∷ (z ∷ ks))) h k = refl
 
 pub tail-kept : (t : Tree) → is_absent t ≡ false → (code_of t ≡ 31 → ⊥) → shape_of_body (one t) ≡ kept
 unfolding shape_of_body

@@ -2,14 +2,14 @@
 use Rattle.std.proofs.Common.{◌≡◌, ℕ, ◌+◌, ◌-◌, ◌<◌, ◌≤◌, Bool, true, false, List, ◌++◌, length, get_or, drop, sym, ap, ◌∙◌, subst, arith, length-append, length-drop}
 use Rattle.std.proofs.lemmas.List.{get_or_append_left, get_or-append_right, get_or-drop}
 use Rattle.trial.specs.Table.{Cleared}
-use Rattle.rule.specs.declared.fault.Fault.TheVariants.{NotATree, BadScope}
+use Rattle.rule.specs.declared.fault.Fault.TheVariants.{BadScope}
 use Rattle.rule.specs.Trees.{Tree, tree_at, tree_of}
 use Rattle.rule.specs.Scopes.{SoundScopes}
 use Rattle.rule.specs.Intake.{Read}
 use Rattle.rule.proofs.Laid.{read-nodes, node-some}
 use Rattle.sameness.specs.Reduction.{reduce}
 use Rattle.sameness.specs.Deciding.{blank, decide}
-use Rattle.sameness.specs.Walking.{Asked, Low, Pictured, NodesWalked, Walked}
+use Rattle.sameness.specs.Walking.{Low, Pictured, NodesWalked, Walked}
 use Rattle.sameness.specs.Comparing.{Sound, Renamed, Parted, Judged, SameTail}
 use Rattle.sameness.proofs.Shown.{shows-blank}
 use Rattle.sameness.proofs.Theorems.{decided, table-renames}
@@ -17,37 +17,28 @@ use Rattle.sameness.proofs.Theorems.{decided, table-renames}
 pub last-in : (ws os : List ℕ) → Read ws os → 0 < length os
 last-in ws os d = omega (arith, read-nodes ws os d, node-some ws d.whole)
 
-last-tree : (ws os : List ℕ) → Read ws os → tree_at ws (length os - 1) ≡ tree_of ws
+-- the root is the last node
+last-tree : (ws os : List ℕ) → Read ws os → (i : ℕ) → i + 1 ≡ length os → tree_at ws i ≡ tree_of ws
 unfolding tree_of
-last-tree ws os d = ap (λ n. tree_at ws (n - 1)) (read-nodes ws os d)
+last-tree ws os d i e = let m : i ≡ length os - 1 = omega arith in ap (tree_at ws) m ∙ ap (λ n. tree_at ws (n - 1)) (read-nodes ws os d)
 
 scopes : (ws : List ℕ) → Sound ws → SoundScopes (tree_of ws)
 scopes ws s = s BadScope (omega arith)
 
-pub last-low : (ws os : List ℕ) → Read ws os → Sound ws → Low (tree_at ws (length os - 1))
-last-low ws os d s = subst Low (sym (last-tree ws os d)) (scopes ws s).low
+pub last-low : (ws os : List ℕ) → Read ws os → Sound ws → (i : ℕ) → i + 1 ≡ length os → Low (tree_at ws i)
+last-low ws os d s i e = subst Low (sym (last-tree ws os d i e)) (scopes ws s).low
 
 pub pictured-blank : (t s : List ℕ) → length t ≡ 2048 → Cleared t s → Pictured blank s
 pictured-blank t s e c = record { shows = shows-blank s (λ i h. c.vacated i h (omega arith)); low = tt }
 
-module _ (wa oa wb ob : List ℕ) (d : Read wa oa) (e : Read wb ob) (s : Sound wa) (r : Sound wb) where
-  pub asked-last : (t : List ℕ) → length t ≡ 2048 → Asked t wa oa wb ob (length oa - 1) (length ob - 1)
-  asked-last t l =
-      record {
-        room = l;
-        rules = record { first = d; first_tree = s NotATree (omega arith); second = e; second_tree = r NotATree (omega arith) };
-        i_in = omega (arith, last-in wa oa d);
-        j_in = omega (arith, last-in wb ob e);
-        i_low = last-low wa oa d s;
-        j_low = last-low wb ob e r;
-      }
-
-  of-rules : (t t' : List ℕ) (b : Bool) → NodesWalked wa (length oa - 1) wb (length ob - 1) t t' b → Walked (λ P. decide (reduce (tree_of wa)) (reduce (tree_of wb)) P) t t' b
+module _ (wa oa wb ob : List ℕ) (d : Read wa oa) (e : Read wb ob) (s : Sound wa) (r : Sound wb)
+    (i j : ℕ) (x : i + 1 ≡ length oa) (y : j + 1 ≡ length ob) where
+  of-rules : (t t' : List ℕ) (b : Bool) → NodesWalked wa i wb j t t' b → Walked (λ P. decide (reduce (tree_of wa)) (reduce (tree_of wb)) P) t t' b
   of-rules t t' b w =
-      subst (λ x. Walked (λ P. decide (reduce x) (reduce (tree_of wb)) P) t t' b) (last-tree wa oa d)
-      (subst (λ y. Walked (λ P. decide (reduce (tree_at wa (length oa - 1))) (reduce y) P) t t' b) (last-tree wb ob e) w)
+      subst (λ z. Walked (λ P. decide (reduce z) (reduce (tree_of wb)) P) t t' b) (last-tree wa oa d i x)
+      (subst (λ z. Walked (λ P. decide (reduce (tree_at wa i)) (reduce z) P) t t' b) (last-tree wb ob e j y) w)
 
-  pub judged-same : (t t' : List ℕ) → Pictured blank t → NodesWalked wa (length oa - 1) wb (length ob - 1) t t' true → Renamed (tree_of wa) (tree_of wb) t'
+  pub judged-same : (t t' : List ℕ) → Pictured blank t → NodesWalked wa i wb j t t' true → Renamed (tree_of wa) (tree_of wb) t'
   judged-same t t' p w =
       let a = (of-rules t t' true w).answers blank p in
       record {
@@ -58,11 +49,11 @@ module _ (wa oa wb ob : List ℕ) (d : Read wa oa) (e : Read wb ob) (s : Sound w
         shows = a.2.shows;
       }
 
-  pub judged-differ : (t t' u : List ℕ) → Pictured blank t → length t' ≡ 2048 → Cleared t' u → NodesWalked wa (length oa - 1) wb (length ob - 1) t t' false → Parted (tree_of wa) (tree_of wb) u
+  pub judged-differ : (t t' u : List ℕ) → Pictured blank t → length t' ≡ 2048 → Cleared t' u → NodesWalked wa i wb j t t' false → Parted (tree_of wa) (tree_of wb) u
   judged-differ t t' u p l c w =
       record {
-        differ = λ x.
-            let k = (decided (tree_of wa) (tree_of wb) (scopes wa s) (scopes wb r)).1 x in
+        differ = λ g.
+            let k = (decided (tree_of wa) (tree_of wb) (scopes wa s) (scopes wb r)).1 g in
             let a = (of-rules t t' false w).answers blank p in
             let z : ◌≡◌ {A = ℕ} 0 1 = (let m = k.1 in cc) in
             omega arith;

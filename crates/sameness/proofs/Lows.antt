@@ -1,5 +1,5 @@
 -- Every node of a rule has low locals only: the root has, and each other node is a child of a higher one.
-use Rattle.std.proofs.Common.{◌≡◌, ℕ, zero, suc, ◌+◌, ◌-◌, ◌<◌, ◌≤◌, List, [], ◌∷◌, length, get_or, ap, ◌∙◌, subst, ⊎_elim, arith}
+use Rattle.std.proofs.Common.{◌≡◌, ℕ, zero, suc, ◌+◌, ◌<◌, ◌≤◌, List, [], ◌∷◌, length, get_or, ap, ◌∙◌, subst, ⊎_elim, arith}
 use Rattle.std.proofs.lemmas.Bool.{cases_eq, cases_lt}
 use Rattle.rule.specs.declared.fault.Fault.TheVariants.{NotATree}
 use Rattle.rule.specs.Run.{kids_at, standing, child_of}
@@ -57,7 +57,7 @@ module _ (ws os : List ℕ) (d : Read ws os) (s : Sound ws) where
 
   -- node i, with at most n nodes above it
   low-from : (n i : ℕ) → i < length os → length os ≤ i + n + 1 → Low (tree_at ws i)
-  low-from zero i h l = let e : length os - 1 ≡ i = omega arith in subst (λ z. Low (tree_at ws z)) e (last-low ws os d s)
+  low-from zero i h l = last-low ws os d s i (omega arith)
   low-from (suc n) i h l =
       ⊎_elim (λ (g : i + 1 < length os).
       let e : child_of i ws os ≡ 1 = ap (child_of i ws) d.places ∙ tree.once i (omega (arith, read-nodes ws os d)) in
@@ -65,7 +65,7 @@ module _ (ws os : List ℕ) (d : Read ws os) (s : Sound ws) where
       let b = kid-below ws os d tree p.j p.q p.j_in p.q_in in
       let m : i < p.j = omega (arith, p.is) in
       subst (λ z. Low (tree_at ws z)) p.is (low-kid ws os d tree p.j p.q p.j_in p.q_in (low-from n p.j p.j_in (omega arith))))
-      (λ (g : length os ≤ i + 1). let e : length os - 1 ≡ i = omega arith in subst (λ z. Low (tree_at ws z)) e (last-low ws os d s)) (cases_lt (i + 1) (length os))
+      (λ (g : length os ≤ i + 1). last-low ws os d s i (omega arith)) (cases_lt (i + 1) (length os))
 
   pub node-low : (i : ℕ) → i < length os → Low (tree_at ws i)
   node-low i h = low-from (length os) i h (omega arith)

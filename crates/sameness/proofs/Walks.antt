@@ -4,27 +4,11 @@ use Rattle.std.proofs.lemmas.Bool.{cond-true, cond-false}
 use Rattle.trial.specs.Table.{paired, unpaired, recorded}
 use Rattle.trial.proofs.Recording.{paired-in, unpaired-in, recorded-in}
 use Rattle.trial.proofs.Extending.{extends-refl, extends-trans, unpaired-extends}
-use Rattle.rule.specs.Trees.{Tree}
-use Rattle.sameness.specs.declared.kind.Kind.{Kind}
-use Rattle.sameness.specs.Deciding.{Table, add, Outcome, holds, given, direct_test, decide, matched, fresh, Shows}
-use Rattle.sameness.specs.Walking.{Pictured, Answers, Walked, KindsWalked, KidsWalked, Not}
+use Rattle.rule.specs.declared.nodes.Node.{Node}
+use Rattle.sameness.specs.Deciding.{Table, add, Outcome, holds, given, direct_test, matched, fresh, Shows}
+use Rattle.sameness.specs.Walking.{Pictured, Answers, KindsWalked, KidsWalked, Not}
 use Rattle.sameness.proofs.Outcomes.{unequal, kids-fail, kids-hold, at_plain, at-binding, at_local}
 use Rattle.sameness.proofs.Shown.{fresh-shown, matched-shown, shows-set}
-
----- answers
-
-answers_by : (r : Bool) (t : List ℕ) (o o' : Outcome) → o ≡ o' → Answers r t o' → Answers r t o
-answers_by r t o o' e a = subst (λ z. Answers r t z) (sym e) a
-
-holds-one : (P Q : Table) → holds P ≡ holds Q → P ≡ Q
-holds-one P Q e = cc
-
-pub same-trees : (x x' y y' : Tree) (t t' : List ℕ) (r : Bool) → x ≡ x' → y ≡ y' → Walked (λ P. decide x y P) t t' r → Walked (λ P. decide x' y' P) t t' r
-same-trees x x' y y' t t' r e f w = subst (λ z. Walked (λ P. decide z y' P) t t' r) e (subst (λ z. Walked (λ P. decide x z P) t t' r) f w)
-
--- a table that is put back
-pub from-same : (o : Table → Outcome) (s t t' : List ℕ) (r : Bool) → s ≡ t → Walked o s t' r → Walked o t t' r
-from-same o s t t' r e w = subst (λ z. Walked o z t' r) e w
 
 ---- locals
 
@@ -50,7 +34,7 @@ module _ (P : Table) (t : List ℕ) (x y : ℕ) (p : Pictured P t) (l : length t
 
 ---- kinds
 
-module _ (wa : List ℕ) (l : Kind) (wb : List ℕ) (r : Kind) where
+module _ (wa : List ℕ) (l : Node) (wb : List ℕ) (r : Node) where
   abbrev Direct : Bool
   Direct = direct_test l.code l.v l.w r.code r.v r.w
 

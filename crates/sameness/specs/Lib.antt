@@ -4,6 +4,7 @@ pub mod Deciding
 pub mod Claims
 pub mod TrialRules
 pub mod Walking
+pub mod Sides
 pub mod Blocks
 pub mod Comparing
 pub mod Reducing

@@ -2,9 +2,9 @@
 ghost use Rattle.std.specs.Prelude.{◌≡◌, ◌≤◌, length};
 ghost use Rattle.rule.specs.Trees.{tree_of};
 ghost use Rattle.sameness.specs.Comparing.{Compared, Judged, Sound, compare_number};
-ghost use Rattle.rule.specs.Intake.{Read};
 
 use crate::eq::eq_node;
+use crate::kind::Branch;
 use rule::fault::Fault;
 use rule::intake::intake;
 use rule::nodes::Rule;
@@ -32,14 +32,23 @@ impl CompareFault {
 
 // Two rules compared over a table of 2,048 words.
 fn judge_rules(a: Rule, b: Rule, t: &mut [u32]) -> bool
-    requires read { (Read a.words.now a.at.now) × (Read b.words.now b.at.now) }
-    requires sound { (Sound a.words.now) × ((Sound b.words.now) × (length t.old ≡ 2048)) }
+    requires first { Sound a.words.now }
+    requires second { Sound b.words.now }
+    requires room { length t.old ≡ 2048 }
     ensures { Judged result (tree_of a.entry.words.now) (tree_of b.entry.words.now) t.new }
 {
     clear(t);
-    let i = a.at.len() - 1;
-    let j = b.at.len() - 1;
-    if eq_node(t, a, b, i, j) {
+    let x = Branch {
+        words: a.words,
+        at: a.at,
+        number: a.root(),
+    };
+    let y = Branch {
+        words: b.words,
+        at: b.at,
+        number: b.root(),
+    };
+    if eq_node(t, x, y) {
         return true;
     }
     clear(t);
@@ -52,25 +61,18 @@ fn judge_rules(a: Rule, b: Rule, t: &mut [u32]) -> bool
 pub fn compare(first: &[u32], second: &[u32], pairs: &mut [u32]) -> Result<bool, CompareFault>
     ensures { Compared first.now second.now pairs.old pairs.new result }
 {
-    let a = match intake(first) {
-        Ok(nodes) => nodes,
-        Err(fault) => return Err(CompareFault::First(fault)),
-    };
-    let b = match intake(second) {
-        Ok(nodes) => nodes,
-        Err(fault) => return Err(CompareFault::Second(fault)),
-    };
+    let a = intake(first).map_err(CompareFault::First)?;
+    let b = intake(second).map_err(CompareFault::Second)?;
     if pairs.len() < PLACES {
         return Err(CompareFault::PairTable);
     }
     let l = Rule {
         words: first,
-        at: &a.at[0..a.count],
+        at: a.places(),
     };
     let r = Rule {
         words: second,
-        at: &b.at[0..b.count],
+        at: b.places(),
     };
-    let same = judge_rules(l, r, &mut pairs[0..PLACES]);
-    Ok(same)
+    Ok(judge_rules(l, r, &mut pairs[0..PLACES]))
 }

@@ -1,126 +1,141 @@
-// A node's words and the place of its child numbers; and what a block expression comes to.
+// A node of a rule with all that is below it; and what a block expression comes to.
 ghost use Rattle.std.specs.Prelude.{◌≡◌, ℕ, ◌<◌, ◌≤◌, ◌&&◌, length, ◌==◌, slice_index};
 ghost use Rattle.rule.specs.Intake.{Read, Treelike};
+ghost use Rattle.rule.specs.Nodes.{Spelt};
 ghost use Rattle.rule.specs.Trees.{tree_at};
 ghost use Rattle.sameness.specs.Blocks.{Comes, Made, one};
 ghost use Rattle.sameness.specs.Reduction.{reduce};
 ghost use Rattle.sameness.specs.Sameness.{pair};
-ghost use Rattle.sameness.specs.Walking.{Held, Low, kind_at, tree_in};
+ghost use Rattle.sameness.specs.Walking.{Held, Low, tree_in};
 
-use rule::nodes::Rule;
+use rule::codes::{ABSENT, BLOCK, BLOCK_EXPR, EXPR_STMT, RETURN, SEMI_STMT, TUPLE};
+use rule::nodes::{Node, Rule};
 
-// A code with a place: the `kids` child numbers stand at `first` and behind it.
+// Node `number` of a rule whose nodes form a tree, with all that is below it. No local in it is above 1023.
 #[derive(Clone, Copy)]
-pub struct Kind {
-    pub code: u32,
-    pub v: u32,
-    pub w: u32,
-    pub first: usize,
-    pub kids: usize,
+pub(crate) struct Branch<'w, 'p> {
+    pub words: &'w [u32],
+    pub at: &'p [u16],
+    pub number: usize,
+    ghost read: { Read words.now at.now },
+    ghost within: { number < length at.now },
+    ghost treelike: { Treelike words.now },
+    ghost low: { Low (tree_at words.now number) },
 }
 
-// Node `i` as it stands.
-fn kind_at(rule: Rule, i: usize) -> Kind
-    requires { (Read rule.words.now rule.at.now) × (i < length rule.at.now) }
-    ensures { result ≡ kind_at rule.entry.words.now (slice_index rule.entry.at.now i) }
-{
-    let p = rule.at[i] as usize;
-    Kind {
-        code: rule.words[p],
-        v: rule.words[p + 1],
-        w: rule.words[p + 2],
-        first: p + 4,
-        kids: rule.words[p + 3] as usize,
+// A branch, and the node that stands for it: its own node, or what a block expression comes to.
+#[derive(Clone, Copy)]
+pub(crate) struct Side<'w, 'p> {
+    pub branch: Branch<'w, 'p>,
+    pub node: Node<'w>,
+    ghost held: { Held branch.words.now node branch.number },
+}
+
+impl<'w, 'p> Side<'w, 'p> {
+    // Child `q` of the node.
+    pub(crate) fn child(self, q: usize) -> Branch<'w, 'p>
+        requires { q < length self.node.kids.now }
+        ensures words { result.words.now ≡ self.entry.branch.words.now }
+        ensures number { result.number ≡ slice_index self.entry.node.kids.now q }
+    {
+        Branch {
+            words: self.branch.words,
+            at: self.branch.at,
+            number: self.node.kids[q] as usize,
+        }
     }
 }
 
-fn is_absent(kind: Kind) -> bool
-    ensures { result ≡ (kind.code == 0 && kind.kids == 0) }
+fn is_absent(node: Node) -> bool
+    ensures { result ≡ (node.entry.code == 0 && length node.entry.kids.now == 0) }
 {
-    kind.code == 0 && kind.kids == 0
+    node.code == ABSENT && node.kids.is_empty()
 }
 
-// What a plain block comes to that has the tail `t` only: an empty tuple, or the return.
-fn reduce_tail(rule: Rule, t: usize) -> Option<Kind>
-    requires read { (Read rule.words.now rule.at.now) × (t < length rule.at.now) }
-    requires treelike { (Treelike rule.words.now) × (Low (tree_at rule.words.now t)) }
-    ensures { Comes rule.entry.words.now (one (tree_at rule.entry.words.now t)) t result }
-{
-    let tail = kind_at(rule, t);
-    if is_absent(tail) {
-        return Some(Kind {
-            code: 33,
-            v: 0,
-            w: 0,
-            first: tail.first,
-            kids: 0,
-        });
+impl<'w, 'p> Branch<'w, 'p> {
+    // The node as it stands.
+    fn node(self) -> Node<'w>
+        ensures { Spelt self.entry.words.now (slice_index self.entry.at.now self.entry.number) result }
+    {
+        let rule = Rule {
+            words: self.words,
+            at: self.at,
+        };
+        rule.node(self.number).unwrap()
     }
-    if tail.code == 31 {
-        return Some(tail);
-    }
-    None
-}
 
-// What a plain block comes to that has the statement `s` and the tail `t`: the return that is all it holds.
-fn reduce_stmt(rule: Rule, s: usize, t: usize) -> Option<Kind>
-    requires read { (Read rule.words.now rule.at.now) × ((s < length rule.at.now) × (t < length rule.at.now)) }
-    requires treelike { (Treelike rule.words.now) × (Low (tree_at rule.words.now s)) }
-    ensures { Comes rule.entry.words.now (pair (tree_at rule.entry.words.now s) (tree_at rule.entry.words.now t)) s result }
-{
-    if !is_absent(kind_at(rule, t)) {
-        return None;
+    // What a plain block comes to that has this tail only: an empty tuple, or the return.
+    fn reduce_tail(self) -> Option<Node<'w>>
+        ensures { Comes self.entry.words.now (one (tree_at self.entry.words.now self.entry.number)) self.entry.number result }
+    {
+        let tail = self.node();
+        if is_absent(tail) {
+            return Some(Node {
+                code: TUPLE,
+                v: 0,
+                w: 0,
+                kids: &[],
+            });
+        }
+        if tail.code == RETURN {
+            return Some(tail);
+        }
+        None
     }
-    let stmt = kind_at(rule, s);
-    if stmt.code != 96 && stmt.code != 97 {
-        return None;
-    }
-    if stmt.kids != 1 {
-        return None;
-    }
-    let inner = kind_at(rule, rule.words[stmt.first] as usize);
-    if inner.code == 31 {
-        return Some(inner);
-    }
-    None
-}
 
-// What block `j` comes to, if not itself.
-fn reduce_block(rule: Rule, j: usize) -> Option<Kind>
-    requires read { (Read rule.words.now rule.at.now) × (j < length rule.at.now) }
-    requires treelike { (Treelike rule.words.now) × (Low (tree_at rule.words.now j)) }
-    ensures { Made rule.entry.words.now (tree_at rule.entry.words.now j) j result }
-{
-    let block = kind_at(rule, j);
-    if block.code != 94 || block.v != 0 {
-        return None;
+    // What a plain block comes to that has this statement and the tail: the return that is all it holds.
+    fn reduce_stmt(self, tail: Branch) -> Option<Node<'w>>
+        ensures { Comes self.entry.words.now (pair (tree_at self.entry.words.now self.entry.number) (tree_at tail.entry.words.now tail.entry.number)) self.entry.number result }
+    {
+        if !is_absent(tail.node()) {
+            return None;
+        }
+        let stmt = Side {
+            branch: self,
+            node: self.node(),
+        };
+        if stmt.node.code != EXPR_STMT && stmt.node.code != SEMI_STMT {
+            return None;
+        }
+        if stmt.node.kids.len() != 1 {
+            return None;
+        }
+        let inner = stmt.child(0).node();
+        if inner.code == RETURN {
+            return Some(inner);
+        }
+        None
     }
-    if block.kids == 1 {
-        return reduce_tail(rule, rule.words[block.first] as usize);
-    }
-    if block.kids == 2 {
-        return reduce_stmt(
-            rule,
-            rule.words[block.first] as usize,
-            rule.words[block.first + 1] as usize,
-        );
-    }
-    None
-}
 
-// Node `i`, and a block expression as what it comes to.
-pub(crate) fn reduce_exprkind(rule: Rule, i: usize) -> Kind
-    requires read { (Read rule.words.now rule.at.now) × (i < length rule.at.now) }
-    requires treelike { (Treelike rule.words.now) × (Low (tree_at rule.words.now i)) }
-    ensures tree { tree_in rule.entry.words.now result ≡ reduce (tree_at rule.entry.words.now i) }
-    ensures held { Held rule.entry.words.now result i }
-{
-    let kind = kind_at(rule, i);
-    if kind.code != 15 || kind.kids != 1 {
-        return kind;
+    // What a block comes to, if not itself.
+    fn reduce_block(self) -> Option<Node<'w>>
+        ensures { Made self.entry.words.now (tree_at self.entry.words.now self.entry.number) self.entry.number result }
+    {
+        let block = Side {
+            branch: self,
+            node: self.node(),
+        };
+        // Kept: v is a word of the format, of which this code asks the first number alone.
+        if block.node.code != BLOCK || block.node.v != 0 {
+            return None;
+        }
+        match block.node.kids.len() {
+            1 => block.child(0).reduce_tail(),
+            2 => block.child(0).reduce_stmt(block.child(1)),
+            _ => None,
+        }
     }
-    match reduce_block(rule, rule.words[kind.first] as usize) {
-        Some(inner) => inner,
-        None => kind,
+
+    // The node, and a block expression as what it comes to.
+    pub(crate) fn reduce_exprkind(self) -> Node<'w>
+        ensures tree { tree_in self.entry.words.now result ≡ reduce (tree_at self.entry.words.now self.entry.number) }
+        ensures held { Held self.entry.words.now result self.entry.number }
+    {
+        let node = self.node();
+        if node.code != BLOCK_EXPR || node.kids.len() != 1 {
+            return node;
+        }
+        let side = Side { branch: self, node };
+        side.child(0).reduce_block().unwrap_or(node)
     }
 }

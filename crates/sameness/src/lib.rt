@@ -5,20 +5,23 @@ ghost use Rattle.sameness.specs.TrialRules.{TrialRules};
 
 pub mod compare;
 mod eq;
-pub mod kind;
+mod kind;
 pub mod reducing;
 pub mod words;
 
 // Sameness is an equivalence of the rules that are not the same as nothing.
 pub fn equivalence() -> u8
-    ensures { (Reflexive) × ((Symmetric) × (Transitive)) }
+    ensures reflexive { Reflexive }
+    ensures symmetric { Symmetric }
+    ensures transitive { Transitive }
 {
     0
 }
 
 // The walk decides sameness, and the table that it leaves is a renaming.
 pub fn deciding() -> u8
-    ensures { (Decided) × (TableRenames) }
+    ensures decided { Decided }
+    ensures table_renames { TableRenames }
 {
     0
 }

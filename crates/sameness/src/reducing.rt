@@ -1,39 +1,50 @@
 // The nodes of a rule, each reduced.
 ghost use Rattle.sameness.specs.Comparing.{Unsound};
 ghost use Rattle.sameness.specs.Reducing.{RuleReduced};
-ghost use Rattle.std.specs.Result.{MatchResult};
+ghost use Rattle.std.specs.Prelude.{◌≡◌, take, IfOk, IfErr};
 
-use crate::kind::{Kind, reduce_exprkind};
+use crate::kind::Branch;
+use rule::codes::ABSENT;
 use rule::fault::Fault;
 use rule::intake::intake;
-use rule::nodes::Rule;
+use rule::nodes::Node;
 
-// A kind for each node: the first `count` of `kinds`.
+// What each node comes to: the first `count` of `kinds`.
+// Kept: an array and a count, since this crate uses no heap.
 #[derive(Clone, Copy)]
-pub struct Reduced {
-    pub kinds: [Kind; 2048],
+pub struct Reduced<'a> {
+    pub kinds: [Node<'a>; 2048],
     pub count: usize,
 }
 
+impl<'a> Reduced<'a> {
+    /// What the nodes come to, in their order.
+    pub fn kinds(&self) -> &[Node<'a>]
+        ensures { result.now ≡ take self.now.count self.now.kinds }
+    {
+        self.kinds.get(0..self.count).unwrap_or(&self.kinds)
+    }
+}
+
 // A run of words as a rule with its nodes reduced, or the first ground of 1 to 6 on which it is refused.
-pub fn reduce_rule(words: &[u32]) -> Result<Reduced, Fault>
-    ensures { MatchResult result (λ d. RuleReduced words.now d) (λ f. Unsound words.now f) }
+pub fn reduce_rule<'a>(words: &'a [u32]) -> Result<Reduced<'a>, Fault>
+    ensures ok { IfOk result (λ d. RuleReduced words.now d) }
+    ensures err { IfErr result (λ f. Unsound words.now f) }
 {
     let nodes = intake(words)?;
-    let rule = Rule {
-        words,
-        at: &nodes.at[0..nodes.count],
-    };
-    let none = Kind {
-        code: 0,
+    let at = nodes.places();
+    // Stands where there is no node.
+    let none = Node {
+        code: ABSENT,
         v: 0,
         w: 0,
-        first: 0,
-        kids: 0,
+        kids: &words[0..0],
     };
     let mut kinds = [none; 2048];
-    for i in 0..nodes.count {
-        kinds[i] = reduce_exprkind(rule, i);
+    for (number, kind) in kinds.iter_mut().enumerate() {
+        if number < at.len() {
+            *kind = Branch { words, at, number }.reduce_exprkind();
+        }
     }
     Ok(Reduced {
         kinds,

@@ -40,9 +40,6 @@ all_read limit text ws rest old all =
       only = λ us h. run-same text us ws h.run run;
     }
 
-pub first-shorter : (bs p rest : List ℕ) → First bs p rest → length rest < length bs
-first-shorter bs p rest f = omega (arith, f.some, ap length f.whole ∙ length-append f.gap (p ++ rest), length-append p rest)
-
 module _ (limit : ℕ) (text ws rest p after : List ℕ) (old : Sofar limit text ws rest) (first : First rest p after) where
   -- the run that is left begins with what p writes
   next-unit : (vs : List ℕ) → Run rest vs → (v : ℕ) × (more : List ℕ) × (vs ≡ v ∷ more) × Writes p v × (v < 2 ^ 32) × Run after more

@@ -1,22 +1,13 @@
--- The next piece of a line, and the number that it writes. Assumes nothing.
-use Rattle.std.proofs.Common.{◌≡◌, ℕ, ◌^◌, ◌<◌, ◌≤◌, true, false, ◌⊎◌, List, [], ◌∷◌, length, Err, sym, ap, subst, inl, inr, arith}
+-- The number that the next piece of a line writes. Assumes nothing.
+use Rattle.std.proofs.Common.{ℕ, ◌^◌, ◌<◌, ◌≤◌, true, ◌⊎◌, List, [], ◌∷◌, Err, ap, subst, inl, inr, arith}
 use Rattle.tables.specs.declared.word.WordFault.{WordFault}
 use Rattle.tables.specs.declared.word.WordFault.TheVariants.{NotANumber, TooLarge}
 use Rattle.tables.specs.Numerals.{Writes, NoNumber, WideNumber, ReadAs}
-use Rattle.tables.specs.Pieces.{Blanks, Cut, First, Run}
+use Rattle.tables.specs.Pieces.{Blanks, First, Run}
 use Rattle.tables.proofs.Numbers.{writes_one}
-use Rattle.tables.proofs.Runs.{blanks-append, first-after, none_yet, first_piece}
-use Rattle.tables.proofs.Sole.{first-same, no-piece, no_word}
-use Rattle.scripts.specs.Parts.{NumberTo, UnitAt}
+use Rattle.tables.proofs.Sole.{first-same, no_word}
+use Rattle.scripts.specs.Parts.{NumberTo, PieceTo, UnitAt}
 use Rattle.scripts.specs.Readings.{Sole, NoneIs}
-
-pub next-first : (bs gap rest p after : List ℕ) → Cut true bs gap rest → 0 < length rest → Cut false rest p after → First bs p after
-next-first bs gap rest p after skip some cut =
-    first-after bs gap rest p after skip.whole skip.alike (first_piece (none_yet bs gap rest skip) some cut)
-
-pub none_left : (bs gap rest : List ℕ) → Cut true bs gap rest → length rest ≡ 0 → Blanks true bs
-none_left bs gap rest skip none =
-    subst (Blanks true) (sym skip.whole) (blanks-append true gap rest skip.alike (λ i l. absurd (omega arith)))
 
 pub bad-word : (p : List ℕ) (w : WordFault) → ReadAs p (Err w) → NoNumber p ⊎ WideNumber p
 bad-word p NotANumber h = inl h
@@ -31,8 +22,8 @@ number-sole bs q h = record {
       (λ i. (number i, same.1 i));
 }
 
-pub number-missing : (bs : List ℕ) → Blanks true bs → NoneIs (NumberTo bs)
-number-missing bs all = λ q h. no-piece bs h.0 q.1 all h.1
+pub number-missing : (bs : List ℕ) → NoneIs (PieceTo bs) → NoneIs (NumberTo bs)
+number-missing bs none = λ q h. none (h.0, q.1) h.1
 
 pub number-bad : (bs p rest : List ℕ) (w : WordFault) → First bs p rest → ReadAs p (Err w) → NoneIs (NumberTo bs)
 number-bad bs p rest w first bad = λ q h.

@@ -1,10 +1,9 @@
 -- The lines of a script, one more of them. Assumes nothing.
-use Rattle.std.proofs.Common.{◌≡◌, ℕ, ◌+◌, ◌<◌, ◌≤◌, true, false, ◌⊎◌, List, [], ◌∷◌, ◌++◌, length, get_or, take, IsErrAnd, Some, None, Ok, Err, Option, Result, sym, refl, ap, ◌∙◌, subst, inl, inr, ⊎_elim, append_assoc, append-nil, arith, length-append}
+use Rattle.std.proofs.Common.{◌≡◌, ℕ, ◌+◌, ◌<◌, true, false, ◌⊎◌, List, [], ◌∷◌, ◌++◌, length, get_or, take, IsErrAnd, Some, None, Ok, Err, Option, Result, sym, refl, ap, ◌∙◌, subst, inl, inr, ⊎_elim, append_assoc, append-nil, arith}
 use Rattle.std.proofs.lemmas.List.{length_push, take_more}
 use Rattle.tables.specs.Lines.{content, skipped}
 use Rattle.tables.specs.Rules.{lines}
 use Rattle.tables.proofs.Reading.{when_true, when_false}
-use Rattle.tables.proofs.Rows.{lines-length}
 use Rattle.tables.proofs.Sole.{at_true, at-false}
 use Rattle.scripts.specs.Calls.{Told, told, told_all, CallAs}
 use Rattle.scripts.specs.Headings.{HeadingAs}
@@ -106,9 +105,6 @@ call_back v ts t l ls s plain one x =
     (x.0, (here.1, x.1.1 ∙ ap (λ us. ts ++ us) (here.2 ∙ ap (λ u. u ∷ here.1) same) ∙ sym (append_assoc ts (t ∷ []) here.1), here.4))
 
 module _ (text l : List ℕ) (left : List (List ℕ)) (line : ℕ) (h : Option (Kind × Heading)) (ts : List Told) (old : Sofar text (l ∷ left) line h ts) where
-  pub count_fits : line + 1 ≤ length text + 1
-  count_fits = omega (arith, old.count, lines-length text, ap length old.whole ∙ length-append old.done (l ∷ left))
-
   regroup : (more : List (List ℕ)) → (old.done ++ (l ∷ [])) ++ more ≡ old.done ++ (l ∷ more)
   regroup more = append_assoc old.done (l ∷ []) more
 

@@ -3,3 +3,4 @@ pub mod Parts
 pub mod Calls
 pub mod Headings
 pub mod Scripts
+pub mod Spellings

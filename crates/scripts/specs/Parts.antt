@@ -1,5 +1,5 @@
 -- The parts of a line. Assumes nothing.
-use Rattle.std.specs.Prelude.{◌≡◌, ℕ, ◌^◌, ◌<◌, ◌≤◌, true, List, length, Some, None, Option, ◌≢◌, slice_index}
+use Rattle.std.specs.Prelude.{◌≡◌, ℕ, ◌^◌, ◌<◌, ◌≤◌, true, List, length, Some, None, Ok, Err, Option, Result, ◌≢◌, slice_index}
 use Rattle.std.specs.Borrow.{Bor}
 use Rattle.tables.specs.Numerals.{Writes}
 use Rattle.tables.specs.Pieces.{Blanks, First, Run}
@@ -8,6 +8,10 @@ use Rattle.tables.specs.Pieces.{Blanks, First, Run}
 abbrev pub PieceAs : List ℕ → Option (Bor (List ℕ) × Bor (List ℕ)) → Type 0
 PieceAs bs None = Blanks true bs
 PieceAs bs (Some q) = First bs q.0.now q.1.now
+
+-- the next piece of bs, and what follows it
+abbrev pub PieceTo : List ℕ → List ℕ × List ℕ → Type 0
+PieceTo bs q = First bs q.0 q.1
 
 -- the next piece of bs writes a number, and what follows it
 abbrev pub NumberTo : List ℕ → ℕ × List ℕ → Type 0
@@ -27,6 +31,6 @@ abbrev pub WordTo : {V : Type 0} → (V → List ℕ) → List ℕ → V × List
 WordTo spelling bs q = First bs (spelling q.0) q.1
 
 -- what bs is the word for, or that it is the word for nothing
-abbrev pub WordAs : {V : Type 0} → (V → List ℕ) → List ℕ → Option V → Type 0
-WordAs spelling bs (Some v) = bs ≡ spelling v
-WordAs {V} spelling bs None = (v : V) → bs ≢ spelling v
+abbrev pub WordAs : {V E : Type 0} → (V → List ℕ) → List ℕ → Result V E → Type 0
+WordAs spelling bs (Ok v) = bs ≡ spelling v
+WordAs {V} spelling bs (Err e) = (v : V) → bs ≢ spelling v

@@ -1,14 +1,15 @@
 // What is wrong with the text of a script, and at which line.
-ghost use Rattle.std.specs.Prelude.{◌≡◌, Some};
-ghost use Rattle.scripts.specs.Readings.{Faulted, line_of};
-ghost use Rattle.scripts.specs.declared.fault.ScriptFault.TheVariants.{Memory};
+ghost use Rattle.std.specs.Prelude.{◌≡◌};
+ghost use Rattle.scripts.specs.Readings.{line_of};
+ghost use Rattle.scripts.specs.declared.fault.ScriptFault.TheVariants.{Memory, NotUtf8};
 
-use std::alloc::{AllocError, AllocFailed, Global};
+use std::alloc::{AllocError, AllocFailed};
+use std::error::Error;
 use std::fmt;
-use tables::fault::shown;
+use tables::fault::BadUtf8;
 
 // What the text should have had in place of what was found.
-#[derive(Clone, Copy, Debug, PartialEq)]
+#[derive(Clone, Copy, Debug, PartialEq, Eq)]
 pub enum Expected {
     Heading,
     Kind,
@@ -37,6 +38,19 @@ pub enum ScriptFault {
     Memory,
 }
 
+// A text is none of the words that name something.
+#[derive(Clone, Copy, Debug, PartialEq, Eq)]
+pub struct UnknownWord;
+
+impl From<BadUtf8> for ScriptFault {
+    ghost from_gives = { λ e r. r ≡ NotUtf8 e.line };
+
+    fn from(e: BadUtf8) -> ScriptFault {
+        ScriptFault::NotUtf8 { line: e.line }
+    }
+}
+
+// Kept: `?` asks for an impl for each error that it converts.
 impl From<AllocError> for ScriptFault {
     ghost from_gives = { λ _ r. r ≡ Memory };
 
@@ -59,8 +73,7 @@ impl ScriptFault {
         ensures { result ≡ line_of self.now }
     {
         match self {
-            ScriptFault::Unexpected { line, .. } => Some(*line),
-            ScriptFault::NotUtf8 { line } => Some(*line),
+            ScriptFault::Unexpected { line, .. } | ScriptFault::NotUtf8 { line } => Some(*line),
             ScriptFault::NoHeading | ScriptFault::Memory => None,
         }
     }
@@ -106,27 +119,10 @@ impl fmt::Display for ScriptFault {
     }
 }
 
-// The fault of a line that has this text in place of what was expected.
-pub(crate) fn found(heap: Global, line: usize, expected: Expected, text: &str) -> ScriptFault
-    ensures { Faulted line result }
-{
-    let Ok(found) = shown(heap, text) else {
-        return ScriptFault::Memory;
-    };
-    ScriptFault::Unexpected {
-        line,
-        expected,
-        found: Some(found),
+impl fmt::Display for UnknownWord {
+    fn fmt<W: fmt::Write>(&self, f: &mut fmt::Formatter<W>) -> fmt::Result {
+        f.write_str("the text names nothing that a script has")
     }
 }
 
-// The fault of a line that ends before what was expected.
-pub(crate) fn missing(line: usize, expected: Expected) -> ScriptFault
-    ensures { line_of result ≡ Some line }
-{
-    ScriptFault::Unexpected {
-        line,
-        expected,
-        found: None,
-    }
-}
+impl Error for UnknownWord {}

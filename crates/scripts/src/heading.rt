@@ -1,20 +1,75 @@
 // The heading of a script: the kind of a catalogue, its room and its hasher.
+ghost use Rattle.std.specs.Prelude.{◌≡◌};
 ghost use Rattle.hashing.specs.Named.{spelling};
 ghost use Rattle.scripts.specs.Headings.{HasherAs, HasherNamed, HeadingAs, KindTo, kind_word};
-ghost use Rattle.scripts.specs.Parts.{WordAs, WordTo};
+ghost use Rattle.scripts.specs.Parts.{WordAs};
 ghost use Rattle.scripts.specs.Readings.{Reads};
+ghost use Rattle.scripts.specs.Scripts.{limit_of};
+ghost use Rattle.scripts.specs.Spellings.{hasher-same, kind-same};
 
-use crate::fault::{Expected, ScriptFault, found, missing};
+use crate::fault::{Expected, ScriptFault, UnknownWord};
 use crate::label::{Label, read_label, read_labelled};
+use crate::line::Line;
+use crate::named::{Named, read_named};
 use crate::pieces::{next_piece, read_end};
 use hashing::named::HasherName;
-use std::alloc::Global;
+use std::str::FromStr;
 
 // What the entries are.
-#[derive(Clone, Copy, Debug, PartialEq)]
+#[derive(Clone, Copy, Debug, PartialEq, Eq)]
 pub enum Kind {
     Rules,
     Names,
+}
+
+impl Kind {
+    // The largest unit of an entry.
+    pub(crate) fn limit(self) -> u32
+        ensures { result ≡ limit_of self }
+    {
+        match self {
+            Kind::Rules => u32::MAX,
+            Kind::Names => 255,
+        }
+    }
+}
+
+impl FromStr for Kind {
+    type Err = UnknownWord;
+
+    ghost from_str_gives = { WordAs kind_word };
+
+    fn from_str(text: &str) -> Result<Kind, UnknownWord> {
+        match text {
+            "rules" => Ok(Kind::Rules),
+            "names" => Ok(Kind::Names),
+            _ => Err(UnknownWord),
+        }
+    }
+}
+
+impl Named for Kind {
+    ghost spelling = { kind_word };
+
+    fn expected() -> Expected {
+        Expected::Kind
+    }
+
+    ghost apart = { kind-same };
+
+    ghost reads = { λ bs r h. h };
+}
+
+impl Named for HasherName {
+    ghost spelling = { spelling };
+
+    fn expected() -> Expected {
+        Expected::HasherName
+    }
+
+    ghost apart = { hasher-same };
+
+    ghost reads = { λ bs r h. h };
 }
 
 // The slots for entries, the units of them all, and the hasher.
@@ -26,13 +81,13 @@ pub struct Heading {
 }
 
 // The heading that a line is.
-pub fn read_heading(heap: Global, text: &str, line: usize) -> Result<(Kind, Heading), ScriptFault>
-    ensures { Reads line (λ x. x) (HeadingAs text.now) result }
+pub fn read_heading(line: Line, text: &str) -> Result<(Kind, Heading), ScriptFault>
+    ensures { Reads line.number (λ x. x) (HeadingAs text.now) result }
 {
-    let (kind, rest) = read_kind(heap, text, line)?;
-    let (slots, rest) = read_labelled(heap, rest, Label::Slots, line)?;
-    let (units, rest) = read_labelled(heap, rest, Label::Units, line)?;
-    let hasher = read_hasher(heap, rest, line)?;
+    let (kind, rest) = read_kind(line, text)?;
+    let (slots, rest) = read_labelled(line, rest, Label::Slots)?;
+    let (units, rest) = read_labelled(line, rest, Label::Units)?;
+    let hasher = read_hasher(line, rest)?;
     Ok((
         kind,
         Heading {
@@ -44,67 +99,29 @@ pub fn read_heading(heap: Global, text: &str, line: usize) -> Result<(Kind, Head
 }
 
 // The kind after `catalogue`, and what follows it.
-fn read_kind(heap: Global, text: &str, line: usize) -> Result<(Kind, &str), ScriptFault>
-    ensures { Reads line (λ x. (x.0, x.1.now)) (KindTo text.now) result }
+fn read_kind(line: Line, text: &str) -> Result<(Kind, &str), ScriptFault>
+    ensures { Reads line.number (λ x. (x.0, x.1.now)) (KindTo text.now) result }
 {
-    let rest = read_label(heap, text, Label::Catalogue, line)?;
-    read_kind_word(heap, rest, line)
-}
-
-fn read_kind_word(heap: Global, text: &str, line: usize) -> Result<(Kind, &str), ScriptFault>
-    ensures { Reads line (λ x. (x.0, x.1.now)) (WordTo kind_word text.now) result }
-{
-    let Some((piece, rest)) = next_piece(text) else {
-        return Err(missing(line, Expected::Kind));
-    };
-    match kind_of(piece) {
-        Some(kind) => Ok((kind, rest)),
-        None => Err(found(heap, line, Expected::Kind, piece)),
-    }
-}
-
-fn kind_of(text: &str) -> Option<Kind>
-    ensures { WordAs kind_word text.now result }
-{
-    match text {
-        "rules" => Some(Kind::Rules),
-        "names" => Some(Kind::Names),
-        _ => None,
-    }
+    let rest = read_label(line, text, Label::Catalogue)?;
+    read_named(line, rest)
 }
 
 // The hasher at the end of a heading, the word-wise one where none stands there.
-fn read_hasher(heap: Global, text: &str, line: usize) -> Result<HasherName, ScriptFault>
-    ensures { Reads line (λ x. x) (HasherAs text.now) result }
+fn read_hasher(line: Line, text: &str) -> Result<HasherName, ScriptFault>
+    ensures { Reads line.number (λ x. x) (HasherAs text.now) result }
 {
     let Some(_) = next_piece(text) else {
         return Ok(HasherName::Rotating);
     };
-    let rest = read_label(heap, text, Label::Hasher, line)?;
-    read_hasher_name(heap, rest, line)
+    let rest = read_label(line, text, Label::Hasher)?;
+    read_hasher_name(line, rest)
 }
 
 // The hasher whose name is all the text has.
-fn read_hasher_name(heap: Global, text: &str, line: usize) -> Result<HasherName, ScriptFault>
-    ensures { Reads line (λ x. x) (HasherNamed text.now) result }
+fn read_hasher_name(line: Line, text: &str) -> Result<HasherName, ScriptFault>
+    ensures { Reads line.number (λ x. x) (HasherNamed text.now) result }
 {
-    let (hasher, rest) = read_hasher_word(heap, text, line)?;
-    read_end(heap, rest, line)?;
+    let (hasher, rest) = read_named(line, text)?;
+    read_end(line, rest)?;
     Ok(hasher)
-}
-
-fn read_hasher_word(
-    heap: Global,
-    text: &str,
-    line: usize,
-) -> Result<(HasherName, &str), ScriptFault>
-    ensures { Reads line (λ x. (x.0, x.1.now)) (WordTo spelling text.now) result }
-{
-    let Some((piece, rest)) = next_piece(text) else {
-        return Err(missing(line, Expected::HasherName));
-    };
-    match HasherName::of(piece) {
-        Some(hasher) => Ok((hasher, rest)),
-        None => Err(found(heap, line, Expected::HasherName, piece)),
-    }
 }

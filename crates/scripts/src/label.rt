@@ -3,11 +3,11 @@ ghost use Rattle.std.specs.Prelude.{◌≡◌};
 ghost use Rattle.scripts.specs.Headings.{LabelTo, LabelledTo, label_word};
 ghost use Rattle.scripts.specs.Readings.{Reads};
 
-use crate::fault::{Expected, ScriptFault, found, missing};
-use crate::pieces::{next_piece, read_number};
-use std::alloc::Global;
+use crate::fault::{Expected, ScriptFault};
+use crate::line::Line;
+use crate::pieces::read_number;
 
-#[derive(Clone, Copy, Debug, PartialEq)]
+#[derive(Clone, Copy, Debug, PartialEq, Eq)]
 pub(crate) enum Label {
     Catalogue,
     Slots,
@@ -16,6 +16,7 @@ pub(crate) enum Label {
 }
 
 impl Label {
+    // Kept: it is compared with a piece of text, and not printed.
     fn word(self) -> &'static str
         ensures { result.now ≡ label_word self }
     {
@@ -26,9 +27,12 @@ impl Label {
             Label::Hasher => "hasher",
         }
     }
+}
 
-    fn expected(self) -> Expected {
-        match self {
+// What a line should have had in the place of the label.
+impl From<Label> for Expected {
+    fn from(label: Label) -> Expected {
+        match label {
             Label::Catalogue => Expected::Heading,
             Label::Slots => Expected::Slots,
             Label::Units => Expected::Units,
@@ -38,32 +42,24 @@ impl Label {
 }
 
 // What follows the label that the next piece is.
-pub(crate) fn read_label(
-    heap: Global,
-    text: &str,
-    label: Label,
-    line: usize,
-) -> Result<&str, ScriptFault>
-    ensures { Reads line (λ x. x.now) (LabelTo label text.now) result }
+pub(crate) fn read_label(line: Line, text: &str, label: Label) -> Result<&str, ScriptFault>
+    ensures { Reads line.number (λ x. x.now) (LabelTo label text.now) result }
 {
-    let Some((piece, rest)) = next_piece(text) else {
-        return Err(missing(line, label.expected()));
-    };
+    let (piece, rest) = line.piece(text, label.into())?;
     if piece == label.word() {
         return Ok(rest);
     }
-    Err(found(heap, line, label.expected(), piece))
+    Err(line.found(label.into(), piece))
 }
 
 // The number after a label, and what follows it.
 pub(crate) fn read_labelled(
-    heap: Global,
+    line: Line,
     text: &str,
     label: Label,
-    line: usize,
 ) -> Result<(usize, &str), ScriptFault>
-    ensures { Reads line (λ x. (x.0, x.1.now)) (LabelledTo label text.now) result }
+    ensures { Reads line.number (λ x. (x.0, x.1.now)) (LabelledTo label text.now) result }
 {
-    let rest = read_label(heap, text, label, line)?;
-    read_number(heap, rest, line)
+    let rest = read_label(line, text, label)?;
+    read_number(line, rest)
 }

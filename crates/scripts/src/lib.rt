@@ -6,6 +6,8 @@ pub mod call;
 pub mod fault;
 pub mod heading;
 mod label;
+pub mod line;
+mod named;
 mod narrow;
 mod pieces;
 pub mod script;

@@ -4,54 +4,45 @@ ghost use Rattle.tables.specs.Pieces.{Blanks, Run};
 ghost use Rattle.scripts.specs.Parts.{NumberTo, PieceAs};
 ghost use Rattle.scripts.specs.Readings.{Reads};
 
-use crate::fault::{Expected, ScriptFault, found, missing};
-use std::alloc::Global;
-use tables::blanks::{cut_piece, skip_blanks};
+use crate::fault::{Expected, ScriptFault};
+use crate::line::Line;
+use tables::pieces::Pieces;
 use tables::word::read_word;
 
 // The next piece and what follows it, or `None` where only blanks are left.
 pub(crate) fn next_piece(text: &str) -> Option<(&str, &str)>
     ensures { PieceAs text.now result }
 {
-    let rest = skip_blanks(text);
-    if rest.is_empty() {
-        return None;
-    }
-    Some(cut_piece(rest))
+    let mut pieces = Pieces::new(text);
+    let piece = pieces.next()?;
+    Some((piece, pieces.rest()))
 }
 
 // Only blanks are left.
-pub(crate) fn read_end(heap: Global, text: &str, line: usize) -> Result<(), ScriptFault>
-    ensures { Reads line (λ _. tt) (λ (_ : Unit {0}). Blanks true text.now) result }
+pub(crate) fn read_end(line: Line, text: &str) -> Result<(), ScriptFault>
+    ensures { Reads line.number (λ _. tt) (λ (_ : Unit {0}). Blanks true text.now) result }
 {
     match next_piece(text) {
-        Some((piece, _)) => Err(found(heap, line, Expected::End, piece)),
+        Some((piece, _)) => Err(line.found(Expected::End, piece)),
         None => Ok(()),
     }
 }
 
 // The number that the next piece writes, and what follows it.
-pub(crate) fn read_number(
-    heap: Global,
-    text: &str,
-    line: usize,
-) -> Result<(usize, &str), ScriptFault>
-    ensures { Reads line (λ x. (x.0, x.1.now)) (NumberTo text.now) result }
+pub(crate) fn read_number(line: Line, text: &str) -> Result<(usize, &str), ScriptFault>
+    ensures { Reads line.number (λ x. (x.0, x.1.now)) (NumberTo text.now) result }
 {
-    let Some((piece, rest)) = next_piece(text) else {
-        return Err(missing(line, Expected::Number));
-    };
-    match read_word(piece) {
-        Ok(word) => Ok((word as usize, rest)),
-        Err(_) => Err(found(heap, line, Expected::Number, piece)),
-    }
+    let (piece, rest) = line.piece(text, Expected::Number)?;
+    let word = read_word(piece).map_err(|_| line.found(Expected::Number, piece))?;
+    Ok((word as usize, rest))
 }
 
 // The number that is all the text has.
-pub(crate) fn read_sole_number(heap: Global, text: &str, line: usize) -> Result<usize, ScriptFault>
-    ensures { Reads line (λ k. k) (λ k. Run text.now (k ∷ [])) result }
+// Kept: beside the hasher of a heading; a function of a reader, with a contract over what the reader may answer, is longer.
+pub(crate) fn read_sole_number(line: Line, text: &str) -> Result<usize, ScriptFault>
+    ensures { Reads line.number (λ k. k) (λ k. Run text.now (k ∷ [])) result }
 {
-    let (number, rest) = read_number(heap, text, line)?;
-    read_end(heap, rest, line)?;
+    let (number, rest) = read_number(line, text)?;
+    read_end(line, rest)?;
     Ok(number)
 }

@@ -1,12 +1,12 @@
 // A script, line by line.
-ghost use Rattle.std.specs.Prelude.{◌≡◌};
 ghost use Rattle.tables.specs.Rules.{lines};
 ghost use Rattle.scripts.specs.Calls.{told_all};
-ghost use Rattle.scripts.specs.Scripts.{LinesAs, ScriptAs, limit_of, scripted};
+ghost use Rattle.scripts.specs.Scripts.{LinesAs, ScriptAs, scripted};
 
 use crate::call::{Call, read_call};
 use crate::fault::ScriptFault;
 use crate::heading::{Heading, Kind, read_heading};
+use crate::line::Line;
 use crate::narrow::narrow_calls;
 use std::alloc::Global;
 use tables::blanks::is_skipped;
@@ -23,10 +23,7 @@ pub enum Script {
 pub fn read_script(heap: Global, bytes: &[u8]) -> Result<Script, ScriptFault>
     ensures { ScriptAs bytes.now result }
 {
-    match text_of(bytes) {
-        Ok(text) => read_text(heap, text),
-        Err(line) => Err(ScriptFault::NotUtf8 { line }),
-    }
+    read_text(heap, text_of(bytes)?)
 }
 
 // The script that a text is.
@@ -46,30 +43,20 @@ fn read_lines(heap: Global, text: &str) -> Result<(Kind, Heading, Vec<Call<u32>>
 {
     let mut headed: Option<(Kind, Heading)> = None;
     let mut calls = Vec::new(heap);
-    let mut line = 0;
-    for row in text.split('\n') {
-        line += 1;
+    for (i, row) in text.split('\n').enumerate() {
         let content = before_return(row);
         if is_skipped(content) {
             continue;
         }
+        let line = Line {
+            heap,
+            number: i + 1,
+        };
         match headed {
-            None => headed = Some(read_heading(heap, content, line)?),
-            Some((kind, _)) => calls.push(read_call(heap, content, limit_of(kind), line)?)?,
+            None => headed = Some(read_heading(line, content)?),
+            Some((kind, _)) => calls.push(read_call(line, content, kind.limit())?)?,
         }
     }
-    match headed {
-        Some((kind, heading)) => Ok((kind, heading, calls)),
-        None => Err(ScriptFault::NoHeading),
-    }
-}
-
-// The largest unit of an entry.
-fn limit_of(kind: Kind) -> u32
-    ensures { result ≡ limit_of kind }
-{
-    match kind {
-        Kind::Rules => u32::MAX,
-        Kind::Names => 255,
-    }
+    let (kind, heading) = headed.ok_or(ScriptFault::NoHeading)?;
+    Ok((kind, heading, calls))
 }

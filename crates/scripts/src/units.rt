@@ -3,44 +3,36 @@ ghost use Rattle.std.specs.Prelude.{vec_items};
 ghost use Rattle.scripts.specs.Parts.{UnitAt, Units};
 ghost use Rattle.scripts.specs.Readings.{Reads};
 
-use crate::fault::{Expected, ScriptFault, found};
-use crate::pieces::next_piece;
-use std::alloc::Global;
+use crate::fault::{Expected, ScriptFault};
+use crate::line::Line;
+use tables::pieces::Pieces;
 use tables::word::read_word;
 
 // The units that the pieces of a text write, none above `limit`.
-pub(crate) fn read_units(
-    heap: Global,
-    text: &str,
-    limit: u32,
-    line: usize,
-) -> Result<Vec<u32>, ScriptFault>
-    ensures { Reads line vec_items (Units limit text.now) result }
+pub(crate) fn read_units(line: Line, text: &str, limit: u32) -> Result<Vec<u32>, ScriptFault>
+    ensures { Reads line.number vec_items (Units limit text.now) result }
 {
-    let mut units = Vec::new(heap);
-    let mut rest = text;
-    while let Some((piece, after)) = next_piece(rest) {
-        units.push(read_unit(heap, piece, limit, line)?)?;
-        rest = after;
+    let mut units = Vec::new(line.heap);
+    for piece in Pieces::new(text) {
+        units.push(read_unit(line, piece, limit)?)?;
     }
     Ok(units)
 }
 
 // The unit that a piece writes.
-fn read_unit(heap: Global, piece: &str, limit: u32, line: usize) -> Result<u32, ScriptFault>
-    ensures { Reads line (λ k. k) (UnitAt limit piece.now) result }
+fn read_unit(line: Line, piece: &str, limit: u32) -> Result<u32, ScriptFault>
+    ensures { Reads line.number (λ k. k) (UnitAt limit piece.now) result }
 {
-    let Ok(word) = read_word(piece) else {
-        return Err(found(heap, line, expected_unit(limit), piece));
-    };
-    if word > limit {
-        return Err(found(heap, line, expected_unit(limit), piece));
+    match read_word(piece) {
+        Ok(word) if word <= limit => Ok(word),
+        _ => Err(line.found(unit_up_to(limit), piece)),
     }
-    Ok(word)
 }
 
-fn expected_unit(limit: u32) -> Expected {
-    if limit == 255 {
+// What a unit is that may be as large as `limit`.
+// Kept: the limit is a number, since `read_call` takes any; the largest byte alone has a name of its own.
+fn unit_up_to(limit: u32) -> Expected {
+    if limit == u32::from(u8::MAX) {
         Expected::Byte
     } else {
         Expected::Number

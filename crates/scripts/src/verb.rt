@@ -1,13 +1,13 @@
 // The verbs that calls begin with.
 ghost use Rattle.scripts.specs.Calls.{verb_word};
-ghost use Rattle.scripts.specs.Parts.{WordAs, WordTo};
-ghost use Rattle.scripts.specs.Readings.{Reads};
+ghost use Rattle.scripts.specs.Parts.{WordAs};
+ghost use Rattle.scripts.specs.Spellings.{verb-same};
 
-use crate::fault::{Expected, ScriptFault, found, missing};
-use crate::pieces::next_piece;
-use std::alloc::Global;
+use crate::fault::{Expected, UnknownWord};
+use crate::named::Named;
+use std::str::FromStr;
 
-#[derive(Clone, Copy, Debug, PartialEq)]
+#[derive(Clone, Copy, Debug, PartialEq, Eq)]
 pub(crate) enum Verb {
     Enter,
     Find,
@@ -18,30 +18,33 @@ pub(crate) enum Verb {
     Run,
 }
 
-// The verb that the next piece is, and what follows it.
-pub(crate) fn read_verb(heap: Global, text: &str, line: usize) -> Result<(Verb, &str), ScriptFault>
-    ensures { Reads line (λ x. (x.0, x.1.now)) (WordTo verb_word text.now) result }
-{
-    let Some((piece, rest)) = next_piece(text) else {
-        return Err(missing(line, Expected::Call));
-    };
-    match verb_of(piece) {
-        Some(verb) => Ok((verb, rest)),
-        None => Err(found(heap, line, Expected::Call, piece)),
+impl FromStr for Verb {
+    type Err = UnknownWord;
+
+    ghost from_str_gives = { WordAs verb_word };
+
+    fn from_str(text: &str) -> Result<Verb, UnknownWord> {
+        match text {
+            "enter" => Ok(Verb::Enter),
+            "find" => Ok(Verb::Find),
+            "cut" => Ok(Verb::Cut),
+            "count" => Ok(Verb::Count),
+            "class" => Ok(Verb::Class),
+            "hash" => Ok(Verb::Hash),
+            "run" => Ok(Verb::Run),
+            _ => Err(UnknownWord),
+        }
     }
 }
 
-fn verb_of(text: &str) -> Option<Verb>
-    ensures { WordAs verb_word text.now result }
-{
-    match text {
-        "enter" => Some(Verb::Enter),
-        "find" => Some(Verb::Find),
-        "cut" => Some(Verb::Cut),
-        "count" => Some(Verb::Count),
-        "class" => Some(Verb::Class),
-        "hash" => Some(Verb::Hash),
-        "run" => Some(Verb::Run),
-        _ => None,
+impl Named for Verb {
+    ghost spelling = { verb_word };
+
+    fn expected() -> Expected {
+        Expected::Call
     }
+
+    ghost apart = { verb-same };
+
+    ghost reads = { λ bs r h. h };
 }

@@ -1,76 +1,136 @@
 -- Where a text is cut at its blanks. Assumes nothing.
-use Rattle.std.proofs.Common.{◌≡◌, ℕ, ◌+◌, ◌-◌, ◌<◌, ◌≤◌, Bool, true, false, eqb, List, ◌++◌, length, get_or, take, drop, IsUtf8, sym, ap, ◌∙◌, subst, ⊎_elim, add-zero, arith}
-use Rattle.std.specs.Str.{IsCharBoundary}
-use Rattle.std.proofs.lemmas.List.{take-append-drop, get_or-take, get_or-drop, length-take-le, length-drop, at_drop_more, at_drop_all}
-use Rattle.std.proofs.lemmas.Bool.{or_cases, eqb-true, cases_Bool, cases_lt, cond-true, cond-false}
-use Rattle.std.proofs.lemmas.Str.{IsCharBoundary-start, IsCharBoundary-after_ascii}
+use Rattle.std.proofs.Common.{◌≡◌, ℕ, suc, ◌+◌, ◌-◌, ◌<◌, ◌≤◌, Bool, true, false, eqb, List, [], ◌∷◌, ◌++◌, length, get_or, take, drop, Option, Some, None, MatchOption, sym, refl, ap, ◌∙◌, subst, ⊎_elim, add-zero, append_assoc, append-nil, arith, length-append}
+use Rattle.std.specs.Char.{char_set_contains}
+use Rattle.std.specs.Option.{unwrap_or}
+use Rattle.std.specs.Str.{NoCharPasses}
+use Rattle.std.specs.Str.Pattern.{FindsBy, FindsPrefixBy, FindsSuffixBy, CutsPrefixes, CutsSuffixes, IsTrimStartMatches, IsTrimEndMatches, MatchBeginsAt}
+use Rattle.std.proofs.Math.Utf8.{low_scalar}
+use Rattle.std.proofs.lemmas.List.{take-append-drop, get_or-take, get_or-drop, get_or_append_left, length-take-le, length-drop, drop_all, drop_more, nil_from_length}
+use Rattle.std.proofs.lemmas.Bool.{or_cases, eqb-true, cases_Bool, both_ways, cond-true, cond-false}
+use Rattle.std.proofs.lemmas.Bool.Decides.{nat_tests}
+use Rattle.std.proofs.lemmas.Str.{encode_ascii, len_utf8_bounds, NoCharPasses-byte}
+use Rattle.std.proofs.lemmas.Str.Pattern.{drop_at_char}
 use Rattle.tables.specs.Lines.{skipped}
-use Rattle.tables.specs.Pieces.{blank, Cut, Trimmed}
+use Rattle.tables.specs.Pieces.{blank, Blanks, Cut, Trimmed}
+use Rattle.tables.proofs.Runs.{blanks-append}
 
-pub blank-ascii : (b : ℕ) → blank b ≡ true → b < 128
+blank-ascii : (b : ℕ) → blank b ≡ true → b < 128
 blank-ascii b h =
     ⊎_elim (λ e. let at : b ≡ 32 = eqb-true b 32 e in omega arith) (λ e. let at : b ≡ 9 = eqb-true b 9 e in omega arith) (or_cases (eqb b 32) (eqb b 9) h)
 
--- the first n bytes of bs are its longest front of one kind
-pub record Longest (t : Bool) (n : ℕ) (bs : List ℕ) : Type 0 where
-  pub within : n ≤ length bs
-  pub alike : (i : ℕ) → i < n → blank (get_or bs i 0) ≡ t
-  pub ends : n < length bs → blank (get_or bs n 0) ≡ t → ⊥
+not-blank : (b : ℕ) → (blank b ≡ true → ⊥) → blank b ≡ false
+not-blank b h = ⊎_elim (λ e. absurd (h e)) (λ e. e) (cases_Bool (blank b))
 
--- the bytes of bs from n on are its longest end of blanks
-pub record Ending (n : ℕ) (bs : List ℕ) : Type 0 where
-  pub within : n ≤ length bs
-  pub blanks : (i : ℕ) → n ≤ i → i < length bs → blank (get_or bs i 0) ≡ true
-  pub ends : (i : ℕ) → i < n → n ≤ i + 1 → blank (get_or bs i 0) ≡ false
+one_blank : (c : ℕ) → blank c ≡ true → Blanks true (c ∷ [])
+one_blank c h = λ i l. let first : 0 ≡ i = omega arith in subst (λ j. blank (get_or (c ∷ []) j 0) ≡ true) first h
 
--- a cut after blanks falls between characters
-pub after-blanks : (bs : List ℕ) (n : ℕ) → IsUtf8 bs → Longest true n bs → IsCharBoundary bs n
-after-blanks bs n u run =
-    ⊎_elim
-    (λ more.
-    let back : n - 1 + 1 ≡ n = omega arith in
-    subst (IsCharBoundary bs) back (IsCharBoundary-after_ascii bs (n - 1) u (omega (arith, run.within)) (blank-ascii (get_or bs (n - 1) 0) (run.alike (n - 1) (omega arith)))))
-    (λ none. let start : 0 ≡ n = omega arith in subst (IsCharBoundary bs) start (IsCharBoundary-start bs u))
-    (cases_lt 0 n)
+-- what the pattern of the two blanks finds, as the library says it of any test k that answers as the pattern does
+abbrev Asks : (ℕ → Bool) → Type 0
+Asks k = (c : ℕ) → char_set_contains (32 ∷ 9 ∷ []) c ≡ k c
 
-pub cut_at : (t : Bool) (bs : List ℕ) (n : ℕ) (front rest : List ℕ) → Longest t n bs → front ≡ take n bs → rest ≡ drop n bs → Cut t bs front rest
-cut_at t bs n front rest run f r =
-    let within = run.within in
+abbrev AtFront : List ℕ → Option ℕ → Type 0
+AtFront w o = (k : ℕ → Bool) → Asks k → FindsPrefixBy k w o
+
+abbrev AtEnd : List ℕ → Option ℕ → Type 0
+AtEnd w o = (k : ℕ → Bool) → Asks k → FindsSuffixBy k w o
+
+abbrev Anywhere : List ℕ → Option (ℕ × ℕ) → Type 0
+Anywhere w o = (k : ℕ → Bool) → Asks k → FindsBy k w o
+
+blank_set : Asks blank
+blank_set c = grind (arith, nat_tests)
+
+-- blanks that are cut off the front, one after the other
+cut_fronts : (bs ns rest : List ℕ) → CutsPrefixes AtFront bs ns rest → (gap : List ℕ) × (bs ≡ gap ++ rest) × Blanks true gap
+cut_fronts bs [] rest h = ([], sym h, λ i l. absurd (omega arith))
+cut_fronts bs (n ∷ ns) rest (m, earlier, one, e) =
+    let (gap, whole, dark) = cut_fronts bs ns m earlier in
+    let (c, is, at) = one blank blank_set in
+    let cut : m ≡ c ∷ rest = drop_at_char c m 0 n at (blank-ascii c is) ∙ ap (λ l. c ∷ l) (sym e) in
+    (gap ++ (c ∷ []), whole ∙ ap (λ l. gap ++ l) cut ∙ sym (append_assoc gap (c ∷ []) rest), blanks-append true gap (c ∷ []) dark (one_blank c is))
+
+no-front : (bs : List ℕ) (o : Option ℕ) → FindsPrefixBy blank bs o → MatchOption o (Unit {0}) (λ n. n ≡ 0) → 0 < length bs → blank (get_or bs 0 0) ≡ true → ⊥
+no-front [] o f e some h = omega arith
+no-front (b ∷ bs) None f e some h =
+    let small = blank-ascii b h in
+    both_ways (blank b) (f b bs (low_scalar b (omega arith)) (ap (λ l. l ++ bs) (sym (encode_ascii b small)))) h
+no-front (b ∷ bs) (Some n) (c, is, at) e some h = omega (arith, at.ends, e, (len_utf8_bounds c).0)
+
+pub skips : (bs rest : List ℕ) → IsTrimStartMatches AtFront bs rest → (gap : List ℕ) × Cut true bs gap rest
+skips bs rest ((ns, cuts), (o, found, none)) =
+    let (gap, whole, dark) = cut_fronts bs ns rest cuts in
+    (gap, record { whole = whole; alike = dark; ends = λ some h. no-front rest o (found blank blank_set) none some h })
+
+-- blanks that are cut off the end
+cut_ends : (bs ns name : List ℕ) → CutsSuffixes AtEnd bs ns name → (after : List ℕ) × (bs ≡ name ++ after) × Blanks true after
+cut_ends bs [] name h = ([], sym h ∙ sym (append-nil name), λ i l. absurd (omega arith))
+cut_ends bs (n ∷ ns) name (m, earlier, one, e) =
+    let (after, whole, dark) = cut_ends bs ns m earlier in
+    let (c, is, at) = one blank blank_set in
+    let last : drop (length m - n) m ≡ c ∷ [] = drop_at_char c m (length m - n) (length m) at (blank-ascii c is) ∙ ap (λ l. c ∷ l) (drop_all (length m) m (omega arith)) in
+    let cut : m ≡ name ++ (c ∷ []) = sym (take-append-drop (length m - n) m) ∙ (λ i. sym e i ++ last i) in
+    (c ∷ after, whole ∙ ap (λ l. l ++ after) cut ∙ append_assoc name (c ∷ []) after, blanks-append true (c ∷ []) after (one_blank c is) dark)
+
+no-end : (bs : List ℕ) (o : Option ℕ) → FindsSuffixBy blank bs o → MatchOption o (Unit {0}) (λ n. n ≡ 0) → 0 < length bs → blank (get_or bs (length bs - 1) 0) ≡ true → ⊥
+no-end bs None f e some h =
+    let i = length bs - 1 in
+    let b = get_or bs i 0 in
+    let small = blank-ascii b h in
+    let last = drop_more bs i 0 (omega arith) ∙ ap (λ l. b ∷ l) (drop_all (i + 1) bs (omega arith)) ∙ sym (encode_ascii b small) in
+    both_ways (blank b) (f b (take i bs) (low_scalar b (omega arith)) (sym (take-append-drop i bs) ∙ ap (λ l. take i bs ++ l) last)) h
+no-end bs (Some n) (c, is, at) e some h = omega (arith, at.ends, e, (len_utf8_bounds c).0)
+
+pub trims : (bs gap rest name : List ℕ) → Cut true bs gap rest → IsTrimEndMatches AtEnd rest name → Trimmed bs name
+trims bs gap rest name skip ((ns, cuts), (o, found, none)) =
+    let (after, whole, dark) = cut_ends rest ns name cuts in
+    record {
+      before = gap;
+      after = after;
+      whole = skip.whole ∙ ap (λ l. gap ++ l) whole;
+      blanks_before = skip.alike;
+      blanks_after = dark;
+      first = λ some.
+          let front : get_or rest 0 0 ≡ get_or name 0 0 = ap (λ l. get_or l 0 0) whole ∙ get_or_append_left name after 0 0 some in
+          ap blank (sym front) ∙ not-blank (get_or rest 0 0) (skip.ends (omega (arith, ap length whole ∙ length-append name after)));
+      last = λ some. not-blank (get_or name (length name - 1) 0) (no-end name o (found blank blank_set) none some);
+    }
+
+-- where the first blank is, or the end
+lacks : (bs : List ℕ) → NoCharPasses blank bs → (i : ℕ) → i < length bs → blank (get_or bs i 0) ≡ false
+lacks bs h i l =
+    let b = get_or bs i 0 in
+    not-blank b (λ e. both_ways (blank b) (NoCharPasses-byte blank bs i h l (blank-ascii b e)) e)
+
+cut_at : (bs : List ℕ) (n : ℕ) (front rest : List ℕ) → n ≤ length bs → ((i : ℕ) → i < n → blank (get_or bs i 0) ≡ false) → (n < length bs → blank (get_or bs n 0) ≡ true) → front ≡ take n bs → rest ≡ drop n bs → Cut false bs front rest
+cut_at bs n front rest within alike ends f r =
     let long = ap length f ∙ length-take-le n bs within in
     let left = ap length r ∙ length-drop n bs in
     let next : get_or rest 0 0 ≡ get_or bs n 0 = ap (λ l. get_or l 0 0) r ∙ get_or-drop n bs 0 0 ∙ ap (λ i. get_or bs i 0) (add-zero n) in
     record {
       whole = sym ((λ i. f i ++ r i) ∙ take-append-drop n bs);
-      alike = λ i l. let in-front : i < n = omega arith in ap blank (ap (λ xs. get_or xs i 0) f ∙ get_or-take n bs i 0 in-front) ∙ run.alike i in-front;
-      ends = λ some same. run.ends (omega arith) (sym (ap blank next) ∙ same);
+      alike = λ i l. let in-front : i < n = omega arith in ap blank (ap (λ xs. get_or xs i 0) f ∙ get_or-take n bs i 0 in-front) ∙ alike i in-front;
+      ends = λ some bright. both_ways (blank (get_or rest 0 0)) bright (ap blank next ∙ ends (omega arith));
     }
 
-not-blank : (b : ℕ) → (blank b ≡ true → ⊥) → blank b ≡ false
-not-blank b h = ⊎_elim (λ e. absurd (h e)) (λ e. e) (cases_Bool (blank b))
+pub cuts : (bs : List ℕ) (o : Option ℕ) (front rest : List ℕ) → MatchOption o (Anywhere bs None) (MatchBeginsAt Anywhere bs) → front ≡ take (unwrap_or o (length bs)) bs → rest ≡ drop (unwrap_or o (length bs)) bs → Cut false bs front rest
+cuts bs None front rest found f r = cut_at bs (length bs) front rest (omega arith) (lacks bs (found blank blank_set)) (λ l. absurd (omega arith)) f r
+cuts bs (Some i) front rest (j, found, _, (within, _), _) f r =
+    let (none, (c, is, at)) = found blank blank_set in
+    let before : (k : ℕ) → k < i → blank (get_or bs k 0) ≡ false = λ k l.
+    ap blank (sym (get_or-take i bs k 0 l)) ∙ lacks (take i bs) none k (omega (arith, length-take-le i bs within)) in
+    cut_at bs i front rest within before (λ l. ap blank (at.byte (blank-ascii c is)) ∙ is) f r
 
-pub trim-at : (bs gap rest name : List ℕ) (n : ℕ) → Cut true bs gap rest → Ending n rest → name ≡ take n rest → Trimmed bs name
-trim-at bs gap rest name n cut end f =
-    let within = end.within in
-    let long = ap length f ∙ length-take-le n rest within in
-    let at : (i : ℕ) → i < n → get_or name i 0 ≡ get_or rest i 0 = λ i l. ap (λ xs. get_or xs i 0) f ∙ get_or-take n rest i 0 l in
-    record {
-      before = gap;
-      after = drop n rest;
-      whole = cut.whole ∙ ap (λ l. gap ++ l) (sym (ap (λ l. l ++ drop n rest) f ∙ take-append-drop n rest));
-      blanks_before = cut.alike;
-      blanks_after = λ i l. ap blank (get_or-drop n rest i 0) ∙ end.blanks (n + i) (omega arith) (omega (arith, length-drop n rest));
-      first = λ some. ap blank (at 0 (omega arith)) ∙ not-blank (get_or rest 0 0) (cut.ends (omega arith));
-      last = λ some.
-          let back : length name - 1 < n = omega arith in
-          ap blank (at (length name - 1) back) ∙ end.ends (length name - 1) back (omega arith);
-    }
+-- a line after its blanks
+skip-gap : (gap rest : List ℕ) → Blanks true gap → skipped (gap ++ rest) ≡ skipped rest
+skip-gap [] rest h = refl
+skip-gap (b ∷ gap) rest h = cond-true (blank b) (skipped (gap ++ rest)) (eqb b 35) (h 0 (omega arith)) ∙ skip-gap gap rest (λ i l. h (suc i) (omega arith))
 
--- a line's bytes, one more of them
-pub skip-more : (bs : List ℕ) (i : ℕ) → i < length bs → blank (get_or bs i 0) ≡ true → skipped (drop i bs) ≡ skipped (drop (i + 1) bs)
-skip-more bs i l e = at_drop_more skipped bs i 0 l ∙ cond-true (blank (get_or bs i 0)) _ _ e
+pub skipped-after : (bs gap rest : List ℕ) → Cut true bs gap rest → skipped bs ≡ skipped rest
+skipped-after bs gap rest cut = ap skipped cut.whole ∙ skip-gap gap rest cut.alike
 
-pub skip-stops : (bs : List ℕ) (i : ℕ) → i < length bs → blank (get_or bs i 0) ≡ false → skipped (drop i bs) ≡ eqb (get_or bs i 0) 35
-skip-stops bs i l e = at_drop_more skipped bs i 0 l ∙ cond-false (blank (get_or bs i 0)) _ _ e
+pub skipped-nil : (rest : List ℕ) → length rest ≡ 0 → skipped rest ≡ true
+skipped-nil rest none = ap skipped (nil_from_length rest none)
 
-pub skip-ends : (bs : List ℕ) (i : ℕ) → length bs ≤ i → skipped (drop i bs) ≡ true
-skip-ends bs i l = at_drop_all skipped bs i l
+pub skipped-first : (rest : List ℕ) → 0 < length rest → (0 < length rest → blank (get_or rest 0 0) ≡ true → ⊥) → skipped rest ≡ eqb (get_or rest 0 0) 35
+skipped-first [] some ends = absurd (omega arith)
+skipped-first (b ∷ bs) some ends = cond-false (blank b) (skipped bs) (eqb b 35) (not-blank b (ends some))

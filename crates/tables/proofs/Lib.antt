@@ -1,6 +1,7 @@
 pub mod Numbers
 pub mod Cuts
 pub mod Ordered
+pub mod Mapped
 pub mod Runs
 pub mod Endings
 pub mod Faults

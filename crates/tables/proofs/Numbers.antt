@@ -1,29 +1,50 @@
 -- Digits, one more of them, and what they write. Assumes nothing.
-use Rattle.std.proofs.Common.{◌≡◌, ℕ, zero, suc, ◌+◌, ◌*◌, ◌^◌, ◌<◌, ◌≤◌, min, List, [], ◌∷◌, length, get_or, take, Ok, Err, Result, sym, refl, ap, ◌∙◌, subst, inl, inr, ⊎_elim, mul-le-mul_right, mul-le-mul_left, arith}
-use native.Mathlib.Nat.{min-le_left, min-eq_left, min-eq_right}
-use Rattle.std.specs.Str.Parse.{AllDigits, IsNumeral, digits_value}
-use Rattle.std.specs.Char.{digit_value}
-use Rattle.std.proofs.lemmas.List.{take_all}
-use Rattle.std.proofs.lemmas.Bool.{cases_lt}
+use Rattle.std.proofs.Common.{◌≡◌, ℕ, ◌^◌, ◌<◌, ◌≤◌, true, false, ◌&&◌, List, [], ◌∷◌, length, IsErrAnd, MatchResult, Ok, Err, Result, sym, refl, ap, ◌∙◌, subst, inl, inr, ⊎_elim, arith}
+use Rattle.std.specs.Char.{digit_value, is_digit}
+use Rattle.std.specs.List.{list_all}
+use Rattle.std.specs.Result.{OkIff}
+use Rattle.std.specs.Str.Parse.{AllDigits, IsNumeral, ParsesUnsigned, digits_value, without_leading_plus}
+use Rattle.std.proofs.lemmas.Bool.{and_parts, both_ways, cases_lt, lt-ltb, ltb-true}
+use Rattle.std.proofs.lemmas.Result.{err_from_is_err_and}
+use Rattle.std.proofs.lemmas.Str.Parse.{without_leading_plus_none}
 use Rattle.tables.specs.declared.word.WordFault.{WordFault}
 use Rattle.tables.specs.declared.word.WordFault.TheVariants.{NotANumber, TooLarge}
 use Rattle.tables.specs.Numerals.{Writes, ReadAs, DigitsAs}
 
-pub bad-digit : (radix : ℕ) (ds : List ℕ) (i : ℕ) → i < length ds → (digit_value (get_or ds i 0) < radix → ⊥) → AllDigits radix ds → ⊥
-bad-digit radix [] i l h d = absurd (omega arith)
-bad-digit radix (c ∷ cs) zero l h d = h d.0
-bad-digit radix (c ∷ cs) (suc i) l h d = bad-digit radix cs i (omega arith) h d.1
+-- bytes that all pass the test of a digit, and bytes that do not
+digits-all : (radix : ℕ) (ds : List ℕ) → list_all (λ b. is_digit b radix) ds ≡ true → AllDigits radix ds
+digits-all radix [] h = tt
+digits-all radix (d ∷ ds) h =
+    let parts = and_parts (is_digit d radix) (list_all (λ b. is_digit b radix) ds) h in
+    (ltb-true (digit_value d) radix parts.0, digits-all radix ds parts.1)
 
--- a sum that stops at n, one digit on
-pub capped : (v r d n : ℕ) → 1 ≤ r → min (min v n * r + d) n ≡ min (v * r + d) n
-capped v r d n one =
-    ⊎_elim
-    (λ h. let same : v ≤ n = omega arith in ap (λ m. min (m * r + d) n) (min-eq_left same))
-    (λ h.
-    let wide : n ≤ n * r + d = omega (arith, mul-le-mul_left {m = 1} {n = r} n one) in
-    let wider : n ≤ v * r + d = omega (arith, mul-le-mul_right {m = n} {n = v} r h) in
-    ap (λ m. min (m * r + d) n) (min-eq_right h) ∙ min-eq_right wide ∙ sym (min-eq_right wider))
-    (cases_lt v n)
+all-digits : (radix : ℕ) (ds : List ℕ) → AllDigits radix ds → list_all (λ b. is_digit b radix) ds ≡ true
+all-digits radix [] h = refl
+all-digits radix (d ∷ ds) h = (λ i. lt-ltb (digit_value d) radix h.0 i && all-digits radix ds h.1 i)
+
+pub no-digits : (radix : ℕ) (ds : List ℕ) → list_all (λ b. is_digit b radix) ds ≡ false → IsNumeral radix ds → ⊥
+no-digits radix ds off n = both_ways (list_all (λ b. is_digit b radix) ds) off (all-digits radix ds n.1)
+
+no-plus : (radix : ℕ) (ds : List ℕ) → radix ≤ 16 → IsNumeral radix ds → without_leading_plus ds ≡ ds
+no-plus radix [] low n = absurd (omega (arith, n.0))
+no-plus radix (d ∷ ds) low n = without_leading_plus_none (d ∷ ds) (λ e. omega (arith, n.1.0, ap digit_value e))
+
+-- what the library reads of digits alone, where an error can only mean a number past 32 bits
+pub digits_read : {E : Type 0} (radix : ℕ) (ds : List ℕ) (r : Result ℕ E) (s : Result ℕ WordFault) (P : E → WordFault → Type 0) → radix ≤ 16 → 0 < length ds → list_all (λ b. is_digit b radix) ds ≡ true → ParsesUnsigned 32 radix ds r → ((e : E) (f : WordFault) → P e f → f ≡ TooLarge) → MatchResult r (λ n. s ≡ Ok n) (λ e. IsErrAnd s (P e)) → DigitsAs radix ds s
+digits_read {E} radix ds r s P low some all h says made = by r told made
+  where
+    numeral : IsNumeral radix ds
+    numeral = (some, digits-all radix ds all)
+
+    told : OkIff r (IsNumeral radix ds × (digits_value radix ds < 2 ^ 32)) (digits_value radix ds)
+    told = subst (λ l. OkIff r (IsNumeral radix l × (digits_value radix l < 2 ^ 32)) (digits_value radix l)) (no-plus radix ds low numeral) h
+
+    by : (q : Result ℕ E) → OkIff q (IsNumeral radix ds × (digits_value radix ds < 2 ^ 32)) (digits_value radix ds) → MatchResult q (λ n. s ≡ Ok n) (λ e. IsErrAnd s (P e)) → DigitsAs radix ds s
+    by (Ok n) ((_, fits), is) gives = subst (DigitsAs radix ds) (sym gives) (numeral, is, omega arith)
+    by (Err e) none gives =
+        let (f, is, at) = err_from_is_err_and s gives in
+        subst (DigitsAs radix ds) (sym (is ∙ ap Err (says e f at)))
+        (numeral, ⊎_elim (λ l. absurd (none (numeral, l))) (λ l. l) (cases_lt (digits_value radix ds) (2 ^ 32)))
 
 -- no decimal number begins with 0x
 no-decimal : (ds : List ℕ) → AllDigits 10 (48 ∷ 120 ∷ ds) → ⊥
@@ -56,19 +77,3 @@ pub read_whole : (bs : List ℕ) (r : Result ℕ WordFault) → ReadAs bs r → 
 read_whole bs (Ok m) h n w l = ap Ok (writes_one bs m n h.0 w)
 read_whole bs (Err TooLarge) h n w l = absurd (omega (arith, writes_one bs h.0 n h.1 w, h.2))
 read_whole bs (Err NotANumber) h n w l = absurd (h n w)
-
--- all digits seen: v is their number, or the first number past 32 bits
-pub all_seen : (radix i v : ℕ) (ds : List ℕ) → length ds ≤ i → 0 < length ds → AllDigits radix (take i ds) → v ≡ min (digits_value radix (take i ds)) (2 ^ 32) → IsNumeral radix ds × (v ≡ min (digits_value radix ds) (2 ^ 32))
-all_seen radix i v ds end some d e =
-    let whole = take_all i ds end in
-    ((some, subst (AllDigits radix) whole d), e ∙ ap (λ l. min (digits_value radix l) (2 ^ 32)) whole)
-
-pub at-limit : (v w : ℕ) → v ≡ min w (2 ^ 32) → v ≡ 2 ^ 32 → 2 ^ 32 ≤ w
-at-limit v w e at = omega (arith, min-le_left w (2 ^ 32))
-
-pub under-limit : (v w : ℕ) → v ≡ min w (2 ^ 32) → (v ≡ 2 ^ 32 → ⊥) → (v ≡ w) × (v < 2 ^ 32)
-under-limit v w e off =
-    ⊎_elim
-    (λ h. let low : w ≤ 2 ^ 32 = omega arith in let same : v ≡ w = e ∙ min-eq_left low in (same, omega arith))
-    (λ h. absurd (off (e ∙ min-eq_right h)))
-    (cases_lt w (2 ^ 32))

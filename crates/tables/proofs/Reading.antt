@@ -1,5 +1,5 @@
 -- The rules of a table, one line more. Assumes nothing.
-use Rattle.std.proofs.Common.{◌≡◌, ℕ, suc, ◌+◌, ◌<◌, ◌≤◌, Bool, true, false, true≢false, cond, ◌⊎◌, List, [], ◌∷◌, ◌++◌, length, get_or, Some, None, string_bytes, MatchBool, Option, String, sym, refl, ap, ◌∙◌, subst, inl, inr, ⊎_elim, append_assoc, append-nil, arith, length-append}
+use Rattle.std.proofs.Common.{◌≡◌, ℕ, suc, ◌+◌, ◌<◌, Bool, true, false, true≢false, cond, ◌⊎◌, List, [], ◌∷◌, ◌++◌, length, get_or, Some, None, string_bytes, MatchBool, Option, String, sym, refl, ap, ◌∙◌, subst, inl, inr, ⊎_elim, append_assoc, append-nil, arith}
 use Rattle.std.specs.BTreeMap.{get_by_text, is_at, IsEmpty, IsOrdered}
 use Rattle.std.specs.Cmp.Lexicographic.{slice_cmp}
 use Rattle.std.specs.Map.{lookup, update}
@@ -15,7 +15,6 @@ use Rattle.tables.specs.declared.line.Entry.{Entry}
 use Rattle.tables.specs.Lines.{content, skipped, RuleAt, LineFault}
 use Rattle.tables.specs.Rules.{lines, name_of, Holds, Apart, Stands, FaultAfter, FaultIn, NameFault, SetsText}
 use Rattle.tables.proofs.Ordered.{empty-ordered}
-use Rattle.tables.proofs.Rows.{lines-length}
 use Rattle.std.specs.String.{string_cmp}
 
 -- When, by cases
@@ -169,9 +168,6 @@ module _ {Y : Type 0} where
 
     place : line + 1 ≡ 1 + length old.done
     place = omega (arith, old.count)
-
-    pub count_fits : line + 1 ≤ length text + 1
-    count_fits = omega (arith, old.count, lines-length text, ap length old.whole ∙ length-append old.done (l ∷ left))
 
     pub skip-line : skipped (content l) ≡ true → Sofar text left (line + 1) es m
     skip-line skip = record {

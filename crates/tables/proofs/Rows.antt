@@ -1,10 +1,14 @@
 -- The lines of a text, one more of them. Assumes nothing.
-use Rattle.std.proofs.Common.{◌≡◌, ℕ, suc, ◌+◌, ◌<◌, ◌≤◌, Bool, true, false, cond, eqb, List, [], ◌∷◌, ◌++◌, length, get_or, take, drop, Some, None, Option, sym, refl, ap, ◌∙◌, subst, arith, lit<, MatchOption}
+use Rattle.std.proofs.Common.{◌≡◌, ℕ, suc, ◌+◌, ◌<◌, Bool, true, false, cond, eqb, List, [], ◌∷◌, ◌++◌, length, take, drop, Some, None, Option, Bor, sym, refl, ap, ◌∙◌, subst, arith, lit<, MatchOption}
+use Rattle.std.specs.declared.iter.Enumerate.{Enumerate}
+use Rattle.std.specs.declared.str.Split.{Split}
+use Rattle.std.specs.Iterator.Adapters.{enumerate_source, enumerate_count, enumerate_steps}
+use Rattle.std.specs.List.{filter}
 use Rattle.std.specs.Str.Pattern.{FindsChar, IsSplitAtFirstMatch}
-use Rattle.std.specs.Str.Iter.{LacksByte}
-use Rattle.std.proofs.lemmas.List.{take-append-drop, take_more}
+use Rattle.std.specs.Str.Iter.{LacksByte, split_steps, split_text, split_has_more, split_pattern}
+use Rattle.std.proofs.lemmas.List.{take-append-drop}
 use Rattle.std.proofs.lemmas.Str.Pattern.{NoCharPasses-char, drop_at_char}
-use Rattle.std.proofs.lemmas.Bool.{eq-eqb, ne_eqb, cond-true, cond-false, cond_both}
+use Rattle.std.proofs.lemmas.Bool.{ne_eqb, cond-false, cond_both}
 use Rattle.tables.specs.Rules.{grown, lines}
 
 lacks-tail : (c b : ℕ) (bs : List ℕ) → LacksByte c (b ∷ bs) → LacksByte c bs
@@ -20,17 +24,6 @@ lines-last (b ∷ bs) h = cond-false (eqb b 10) _ _ (not-feed b bs h) ∙ ap (gr
 pub lines-first : (xs rest : List ℕ) → LacksByte 10 xs → lines (xs ++ (10 ∷ rest)) ≡ xs ∷ lines rest
 lines-first [] rest h = refl
 lines-first (b ∷ xs) rest h = cond-false (eqb b 10) _ _ (not-feed b xs h) ∙ ap (grown b) (lines-first xs rest (lacks-tail 10 b xs h))
-
-grown-length : (b : ℕ) (ls : List (List ℕ)) → length (grown b ls) ≤ length ls + 1
-grown-length b [] = omega arith
-grown-length b (l ∷ ls) = omega arith
-
-pub lines-length : (bs : List ℕ) → length (lines bs) ≤ length bs + 1
-lines-length [] = omega arith
-lines-length (b ∷ bs) =
-    let rest = lines-length bs in
-    cond_both (eqb b 10) ([] ∷ lines bs) (grown b (lines bs)) (λ ls. length ls ≤ length (b ∷ bs) + 1)
-    (λ e. omega arith) (λ e. omega (arith, grown-length b (lines bs)))
 
 -- the lines that are left of a split at line feeds
 abbrev pub left_lines : Bool → List ℕ → List (List ℕ)
@@ -58,32 +51,44 @@ step_line c now-live w x live rest at on h =
 pub no_line : (now-live : Bool) (w : List ℕ) → false ≡ now-live → left_lines now-live w ≡ []
 no_line now-live w off = sym (ap (λ b. left_lines b w) off)
 
--- one byte more: a line feed begins a line
+-- the lines that are left of those of a text, with their numbers from 0 on
+abbrev pub rows_left : Enumerate (Split ℕ) → List (List ℕ)
+rows_left s = left_lines (split_has_more (enumerate_source s)) (split_text (enumerate_source s))
+
+abbrev pub AtFeeds : Enumerate (Split ℕ) → Type 0
+AtFeeds s = split_pattern (enumerate_source s) ≡ 10
+
+abbrev row-steps : Enumerate (Split ℕ) → Option (ℕ × Bor (List ℕ)) → Enumerate (Split ℕ) → Type 0
+row-steps = enumerate_steps (split_steps FindsChar (λ c d. d ≡ c))
+
+pub next_row : (s t : Enumerate (Split ℕ)) (i : ℕ) (row : Bor (List ℕ)) → AtFeeds s → row-steps s (Some (i, row)) t → AtFeeds t × (rows_left s ≡ row.now ∷ rows_left t) × (enumerate_count s ≡ i) × (enumerate_count t ≡ i + 1)
+next_row s t i row feeds (step, is, on, _) =
+    let now = enumerate_source s in
+    let next = enumerate_source t in (
+      step.1.0 ∙ feeds,
+      step_line (split_pattern now) (split_has_more now) (split_text now) row.now (split_has_more next) (split_text next) feeds step.0 step.1.1,
+      sym is,
+      on ∙ ap (λ n. n + 1) (sym is),
+    )
+
+pub no_row : (s t : Enumerate (Split ℕ)) → row-steps s None t → rows_left s ≡ []
+no_row s t (step, _) = no_line (split_has_more (enumerate_source s)) (split_text (enumerate_source s)) step.0
+
+-- a line feed begins a line
 grown-same : (b : ℕ) (ls : List (List ℕ)) → 0 < length ls → length (grown b ls) ≡ length ls
 grown-same b [] some = absurd (omega arith)
 grown-same b (l ∷ ls) some = refl
 
-lines-by : (t : Bool) (b : ℕ) (ls : List (List ℕ)) → 0 < length ls → length (cond t ([] ∷ ls) (grown b ls)) ≡ length ls + cond t 1 0
-lines-by true b ls some = omega arith
-lines-by false b ls some = omega (arith, grown-same b ls some)
-
 pub lines-some : (bs : List ℕ) → 0 < length (lines bs)
 lines-some [] = omega arith
-lines-some (b ∷ bs) = omega (arith, lines-by (eqb b 10) b (lines bs) (lines-some bs), lines-some bs)
+lines-some (b ∷ bs) =
+    cond_both (eqb b 10) ([] ∷ lines bs) (grown b (lines bs)) (λ ls. 0 < length ls)
+    (λ e. omega arith) (λ e. omega (arith, grown-same b (lines bs) (lines-some bs), lines-some bs))
 
-lines_cons : (b : ℕ) (bs : List ℕ) → length (lines (b ∷ bs)) ≡ length (lines bs) + cond (eqb b 10) 1 0
-lines_cons b bs = lines-by (eqb b 10) b (lines bs) (lines-some bs)
+fed : (t : Bool) (b : ℕ) (ls : List (List ℕ)) (fs : List ℕ) → 0 < length ls → length ls ≡ length fs + 1 → length (cond t ([] ∷ ls) (grown b ls)) ≡ length (cond t (b ∷ fs) fs) + 1
+fed true b ls fs some e = omega arith
+fed false b ls fs some e = grown-same b ls some ∙ e
 
-lines-push : (xs : List ℕ) (b : ℕ) → length (lines (xs ++ (b ∷ []))) ≡ length (lines xs) + cond (eqb b 10) 1 0
-lines-push [] b = lines_cons b []
-lines-push (a ∷ xs) b = omega (arith, lines_cons a (xs ++ (b ∷ [])), lines_cons a xs, lines-push xs b)
-
-pub feed-more : (bs : List ℕ) (i n : ℕ) → i < length bs → n ≡ length (lines (take i bs)) → get_or bs i 0 ≡ 10 → n + 1 ≡ length (lines (take (i + 1) bs))
-feed-more bs i n l e at =
-    let one : ◌≡◌ {A = ℕ} (cond (eqb (get_or bs i 0) 10) 1 0) 1 = cond-true (eqb (get_or bs i 0) 10) 1 0 (eq-eqb (get_or bs i 0) 10 at) in
-    omega (arith, ap (λ xs. length (lines xs)) (take_more bs i 0 l), lines-push (take i bs) (get_or bs i 0))
-
-pub other-more : (bs : List ℕ) (i n : ℕ) → i < length bs → n ≡ length (lines (take i bs)) → (get_or bs i 0 ≡ 10 → ⊥) → n ≡ length (lines (take (i + 1) bs))
-other-more bs i n l e off =
-    let none : ◌≡◌ {A = ℕ} (cond (eqb (get_or bs i 0) 10) 1 0) 0 = cond-false (eqb (get_or bs i 0) 10) 1 0 (ne_eqb (get_or bs i 0) 10 off) in
-    omega (arith, ap (λ xs. length (lines xs)) (take_more bs i 0 l), lines-push (take i bs) (get_or bs i 0))
+pub lines_count : (bs : List ℕ) → length (lines bs) ≡ length (filter (λ b. eqb b 10) bs) + 1
+lines_count [] = refl
+lines_count (b ∷ bs) = fed (eqb b 10) b (lines bs) (filter (λ c. eqb c 10) bs) (lines-some bs) (lines_count bs)

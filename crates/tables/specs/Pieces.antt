@@ -1,5 +1,7 @@
 -- Blanks, and the pieces that they part. Assumes nothing.
-use Rattle.std.specs.Prelude.{◌≡◌, ℕ, ◌-◌, ◌^◌, ◌<◌, Bool, true, false, ◌||◌, List, [], ◌∷◌, ◌++◌, length, ◌==◌, ◌≢◌, slice_index}
+use Rattle.std.specs.Prelude.{◌≡◌, ℕ, ◌-◌, ◌^◌, ◌<◌, Bool, true, false, ◌||◌, List, [], ◌∷◌, ◌++◌, length, Option, Some, None, ◌==◌, ◌≢◌, slice_index}
+use Rattle.std.specs.Borrow.{Bor}
+use Rattle.tables.specs.declared.pieces.Pieces.{Pieces}
 use Rattle.tables.specs.Numerals.{Writes}
 
 -- a space or a tab
@@ -34,6 +36,15 @@ pub record First (bs p rest : List ℕ) : Type 0 where
   pub some : 0 < length p
   pub solid : Blanks false p
   pub ends : 0 < length rest → blank (slice_index rest 0) ≡ true
+
+-- what follows the pieces that were given
+abbrev pub left : Pieces → List ℕ
+left p = p.rest.now
+
+-- the next piece of bs, which rest follows, or that bs has none
+abbrev pub NextPiece : List ℕ → Option (Bor (List ℕ)) → List ℕ → Type 0
+NextPiece bs None rest = Blanks true bs × (rest ≡ bs)
+NextPiece bs (Some p) rest = First bs p.now rest
 
 -- the pieces of bs write the words ws
 abbrev pub Run : List ℕ → List ℕ → Type 0

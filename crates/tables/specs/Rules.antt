@@ -5,6 +5,7 @@ use Rattle.std.specs.BTreeMap.{get_by_text, IsOrdered}
 use Rattle.std.specs.Str.{IsValidUpTo, bytes_eq}
 use Rattle.std.specs.String.{string_cmp}
 use Rattle.std.specs.BTreeMap.{BTreeMap}
+use Rattle.tables.specs.declared.fault.BadUtf8.{BadUtf8}
 use Rattle.tables.specs.declared.fault.TableFault.{TableFault}
 use Rattle.tables.specs.declared.fault.TableFault.TheVariants.{NoColon, NoName, NameTwice, NotANumber, TooLarge, NotUtf8, Memory}
 use Rattle.tables.specs.declared.line.Entry.{Entry}
@@ -68,9 +69,9 @@ abbrev pub KeepsTables : {Z : Type 0} → List ℕ → Result (Vec Entry Z) Tabl
 KeepsTables text r = (es : List Entry) → Holds 1 (lines text) es → Apart es → IfErr r (λ f. f ≡ Memory)
 
 -- the text that bytes are, or the line of the first byte that is none
-abbrev pub TextAs : List ℕ → Result (Bor (List ℕ)) ℕ → Type 0
+abbrev pub TextAs : List ℕ → Result (Bor (List ℕ)) BadUtf8 → Type 0
 TextAs bytes (Ok text) = IsUtf8 bytes × (text.now ≡ bytes)
-TextAs bytes (Err line) = (at : ℕ) × IsValidUpTo bytes at × (line ≡ length (lines (take at bytes)))
+TextAs bytes (Err e) = (at : ℕ) × IsValidUpTo bytes at × (e.line ≡ length (lines (take at bytes)))
 
 -- what bytes are read as: a text, or the line of the first byte that is none
 abbrev pub BytesAs : {Z : Type 0} → List ℕ → Result (Vec Entry Z) TableFault → Type 0

@@ -1,7 +1,7 @@
 // What is wrong with the text of a table, and at which line.
 ghost use Rattle.std.specs.Prelude.{◌≡◌, IfOk, string_bytes};
 ghost use Rattle.tables.specs.Lines.{Shown, line_of};
-ghost use Rattle.tables.specs.declared.fault.TableFault.TheVariants.{Memory};
+ghost use Rattle.tables.specs.declared.fault.TableFault.TheVariants.{Memory, NotUtf8};
 
 use std::alloc::{AllocError, AllocFailed, Global};
 use std::fmt;
@@ -33,6 +33,21 @@ pub enum TableFault {
     Memory,
 }
 
+// The line of the first byte that is no text, counted from 1.
+#[derive(Clone, Copy, Debug, PartialEq, Eq)]
+pub struct BadUtf8 {
+    pub line: usize,
+}
+
+impl From<BadUtf8> for TableFault {
+    ghost from_gives = { λ e r. r ≡ NotUtf8 e.line };
+
+    fn from(e: BadUtf8) -> TableFault {
+        TableFault::NotUtf8 { line: e.line }
+    }
+}
+
+// Kept: `?` asks for an impl for each error that it converts.
 impl From<AllocError> for TableFault {
     ghost from_gives = { λ _ r. r ≡ Memory };
 
@@ -55,12 +70,12 @@ impl TableFault {
         ensures { result ≡ line_of self.now }
     {
         match self {
-            TableFault::NoColon { line } => Some(*line),
-            TableFault::NoName { line } => Some(*line),
-            TableFault::NameTwice { line, .. } => Some(*line),
-            TableFault::NotANumber { line, .. } => Some(*line),
-            TableFault::TooLarge { line, .. } => Some(*line),
-            TableFault::NotUtf8 { line } => Some(*line),
+            TableFault::NoColon { line }
+            | TableFault::NoName { line }
+            | TableFault::NameTwice { line, .. }
+            | TableFault::NotANumber { line, .. }
+            | TableFault::TooLarge { line, .. }
+            | TableFault::NotUtf8 { line } => Some(*line),
             TableFault::Memory => None,
         }
     }
@@ -77,10 +92,7 @@ impl fmt::Display for TableFault {
                     "expected a new name, found {name:?}, which stands at line {before}"
                 )
             }
-            TableFault::NotANumber { found, .. } => {
-                write!(f, "expected a number from 0 to 4294967295, found {found:?}")
-            }
-            TableFault::TooLarge { found, .. } => {
+            TableFault::NotANumber { found, .. } | TableFault::TooLarge { found, .. } => {
                 write!(f, "expected a number from 0 to 4294967295, found {found:?}")
             }
             TableFault::NotUtf8 { .. } => f.write_str("expected UTF-8 text"),

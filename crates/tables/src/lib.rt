@@ -5,6 +5,7 @@
 pub mod blanks;
 pub mod fault;
 pub mod line;
+pub mod pieces;
 pub mod table;
 #[cfg(test)]
 mod tests;

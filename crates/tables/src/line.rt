@@ -2,8 +2,9 @@
 ghost use Rattle.std.specs.Prelude.{◌≡◌};
 ghost use Rattle.tables.specs.Lines.{content, KeepsRules, LineAs, PieceFault, RunAs};
 
-use crate::blanks::{cut_piece, is_skipped, skip_blanks, trim_blanks};
+use crate::blanks::{is_skipped, trim_blanks};
 use crate::fault::{TableFault, shown};
+use crate::pieces::Pieces;
 use crate::word::{WordFault, read_word};
 use std::alloc::Global;
 
@@ -24,9 +25,7 @@ pub fn read_line(heap: Global, text: &str, line: usize) -> Result<Option<Entry>,
     if is_skipped(content) {
         return Ok(None);
     }
-    let Some((front, run)) = content.split_once(':') else {
-        return Err(TableFault::NoColon { line });
-    };
+    let (front, run) = content.split_once(':').ok_or(TableFault::NoColon { line })?;
     let name = trim_blanks(front);
     if name.is_empty() {
         return Err(TableFault::NoName { line });
@@ -40,10 +39,7 @@ pub fn read_line(heap: Global, text: &str, line: usize) -> Result<Option<Entry>,
 pub fn before_return(text: &str) -> &str
     ensures { result.now ≡ content text.now }
 {
-    match text.strip_suffix('\r') {
-        Some(before) => before,
-        None => text,
-    }
+    text.strip_suffix('\r').unwrap_or(text)
 }
 
 // The words of a run, which blanks part.
@@ -51,26 +47,19 @@ fn read_words(heap: Global, run: &str, line: usize) -> Result<Vec<u32>, TableFau
     ensures { RunAs line run.now result }
 {
     let mut words = Vec::new(heap);
-    let mut rest = skip_blanks(run);
-    while !rest.is_empty() {
-        let (piece, after) = cut_piece(rest);
-        match read_word(piece) {
-            Ok(word) => words.push(word)?,
-            Err(fault) => return Err(word_fault(heap, piece, fault, line)),
-        }
-        rest = skip_blanks(after);
+    for piece in Pieces::new(run) {
+        let word = read_word(piece).map_err(|fault| word_fault(heap, piece, fault, line))?;
+        words.push(word)?;
     }
     Ok(words)
 }
 
+// The fault of a piece that is no word.
 fn word_fault(heap: Global, piece: &str, fault: WordFault, line: usize) -> TableFault
     ensures { PieceFault line piece.now fault result }
 {
-    let Ok(found) = shown(heap, piece) else {
-        return TableFault::Memory;
-    };
-    match fault {
+    shown(heap, piece).map_or(TableFault::Memory, |found| match fault {
         WordFault::NotANumber => TableFault::NotANumber { line, found },
         WordFault::TooLarge => TableFault::TooLarge { line, found },
-    }
+    })
 }

@@ -4,7 +4,7 @@ ghost use Rattle.std.specs.BTreeMap.{IsOrdered};
 ghost use Rattle.std.specs.String.{string_cmp};
 ghost use Rattle.tables.specs.Rules.{lines, BytesAs, KeepsTables, NotedAs, TableAs, TextAs};
 
-use crate::fault::{TableFault, shown};
+use crate::fault::{BadUtf8, TableFault, shown};
 use crate::line::{Entry, read_line};
 use std::alloc::Global;
 use std::collections::BTreeMap;
@@ -15,20 +15,16 @@ pub fn read_bytes(heap: Global, bytes: &[u8]) -> Result<Vec<Entry>, TableFault>
     ensures reads { BytesAs bytes.now result }
     ensures keeps { IsUtf8 bytes.now → KeepsTables bytes.now result }
 {
-    match text_of(bytes) {
-        Ok(text) => read_table(heap, text),
-        Err(line) => Err(TableFault::NotUtf8 { line }),
-    }
+    read_table(heap, text_of(bytes)?)
 }
 
-// The text that bytes are, or the line of the first byte that is none, counted from 1.
-pub fn text_of(bytes: &[u8]) -> Result<&str, usize>
+// The text that bytes are.
+pub fn text_of(bytes: &[u8]) -> Result<&str, BadUtf8>
     ensures { TextAs bytes.now result }
 {
-    match from_utf8(bytes) {
-        Ok(text) => Ok(text),
-        Err(e) => Err(line_of(bytes, e.valid_up_to())),
-    }
+    from_utf8(bytes).map_err(|e| BadUtf8 {
+        line: line_of(bytes, e.valid_up_to()),
+    })
 }
 
 // The line that the byte at `at` stands at, counted from 1.
@@ -36,13 +32,7 @@ fn line_of(bytes: &[u8], at: usize) -> usize
     requires { at ≤ length bytes.now }
     ensures { result ≡ length (lines (take at bytes.now)) }
 {
-    let mut line = 1;
-    for b in &bytes[0..at] {
-        if *b == b'\n' {
-            line += 1;
-        }
-    }
-    line
+    bytes[..at].iter().filter(|b| **b == b'\n').count() + 1
 }
 
 // The rules of a table, in the order of its lines.
@@ -52,10 +42,8 @@ pub fn read_table(heap: Global, text: &str) -> Result<Vec<Entry>, TableFault>
 {
     let mut entries = Vec::new(heap);
     let mut seen = BTreeMap::new(heap);
-    let mut line = 0;
-    for row in text.split('\n') {
-        line += 1;
-        if let Some(entry) = read_line(heap, row, line)? {
+    for (i, row) in text.split('\n').enumerate() {
+        if let Some(entry) = read_line(heap, row, i + 1)? {
             note_name(heap, &mut seen, &entry)?;
             entries.push(entry)?;
         }
@@ -64,6 +52,7 @@ pub fn read_table(heap: Global, text: &str) -> Result<Vec<Entry>, TableFault>
 }
 
 // Notes at which line a name stands, and refuses one that stood before.
+// Kept: `entry` takes a key of its own, so it would copy a name that is refused too.
 fn note_name(
     heap: Global,
     seen: &mut BTreeMap<String, usize>,

@@ -1,19 +1,8 @@
 -- The table with no partner at any place.
-use Rattle.std.proofs.Common.{◌≡◌, ℕ, ◌+◌, ◌-◌, ◌<◌, ◌≤◌, ◌≢◌, List, ◌++◌, length, get_or, drop, set, replicate, sym, ap, ◌∙◌, ⊎_elim, arith}
-use Rattle.std.proofs.lemmas.List.{ext_get_or, get_or_append_left, get_or-append_right, get_or-drop, get_or-replicate, get_or-set_other, get_or-set_same, length-append, length-drop, length-replicate}
-use Rattle.std.proofs.lemmas.Bool.{cases_eq, cases_lt}
+use Rattle.std.proofs.Common.{◌≡◌, ℕ, ◌+◌, ◌-◌, ◌<◌, ◌≤◌, List, ◌++◌, length, get_or, drop, replicate, sym, ap, ◌∙◌, ⊎_elim, arith}
+use Rattle.std.proofs.lemmas.List.{ext_get_or, get_or_append_left, get_or-append_right, get_or-drop, get_or-replicate, length-append, length-drop, length-replicate}
+use Rattle.std.proofs.lemmas.Bool.{cases_lt}
 use Rattle.trial.specs.Table.{Cleared}
-
--- the loop of clear
-abbrev pub ClearedTo : List ℕ → List ℕ → ℕ → Type 0
-ClearedTo t s i = ((k : ℕ) → k < i → get_or s k 0 ≡ 4294967295) × ((k : ℕ) → i ≤ k → get_or s k 0 ≡ get_or t k 0)
-
-pub cleared_more : (t s : List ℕ) (i : ℕ) → i < length s → ClearedTo t s i → ClearedTo t (set s i 4294967295) (i + 1)
-cleared_more t s i h inv = (
-  λ k l. ⊎_elim (λ (e : k ≡ i). ap (λ x. get_or (set s i 4294967295) x 0) e ∙ get_or-set_same s i 4294967295 0 h)
-      (λ (n : k ≡ i → ⊥). get_or-set_other s i k 4294967295 0 n ∙ inv.0 k (omega arith)) (cases_eq k i),
-  λ k l. let n : k ≢ i = omega arith in get_or-set_other s i k 4294967295 0 n ∙ inv.1 k (omega arith),
-)
 
 -- a table that has x at its first n places, and past them is t
 fronted :

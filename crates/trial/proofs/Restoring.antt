@@ -1,8 +1,8 @@
 -- What a trial leaves in the table.
-use Rattle.std.proofs.Common.{◌≡◌, ℕ, ◌+◌, ◌<◌, ◌≤◌, Bool, true, false, not, ◌≢◌, List, length, get_or, set, sym, ap, ◌∙◌, subst, ⊎_elim, arith}
-use Rattle.std.proofs.lemmas.List.{get_or-set_same, get_or-set_other, ext_get_or}
+use Rattle.std.proofs.Common.{◌≡◌, ℕ, ◌+◌, ◌-◌, ◌<◌, ◌≤◌, min, Bool, true, false, not, ◌≢◌, List, ◌++◌, length, get_or, set, take, drop, sym, ap, ◌∙◌, subst, ⊎_elim, arith}
+use Rattle.std.proofs.lemmas.List.{get_or-set_same, get_or-set_other, get_or-take, get_or-drop, get_or_append_left, get_or-append_right, length-take, length-drop, length-append, ext_get_or}
 use Rattle.std.proofs.lemmas.Bool.{cases_Bool, cases_eq, cases_lt, eqb-true, true≢false}
-use Rattle.trial.specs.Marks.{Marked}
+use Rattle.trial.specs.Marks.{held, Marked}
 use Rattle.trial.specs.Table.{vacant}
 use Rattle.trial.specs.Trials.{Extends, Restored}
 
@@ -49,3 +49,27 @@ restored-more f t s i b h inv = (
       (λ (n : k ≡ i → ⊥). get_or-set_other s i k 4294967295 0 n ∙ inv.1 k (omega arith) e) (cases_eq k i),
   λ k l. let n : k ≢ i = omega arith in get_or-set_other s i k 4294967295 0 n ∙ inv.2 k (omega arith),
 )
+
+-- restore goes over the places of the table alone, and leaves what stands past them
+pub restored-places :
+    (bits t s : List ℕ) (n i : ℕ) → n ≡ min (length t) 2048 → length s ≡ length (take n t) → length (take n t) ≤ i →
+    RestoredTo (held bits) (take n t) s i → Restored bits t (s ++ drop n t)
+restored-places bits t s n i whole long done inv =
+    record {
+      long = length-append s (drop n t) ∙ omega (arith, size, length-drop n t);
+      stays = λ k l h.
+          ⊎_elim (λ (b : k < n). within k b ∙ inv.0 k (omega (arith, size)) h ∙ get_or-take n t k 0 b) (λ (b : n ≤ k). past k b) (cases_lt k n);
+      vacated = λ k l b h. within k (omega arith) ∙ inv.1 k (omega (arith, size)) h;
+      tail = λ k l. past k (omega arith);
+    }
+  where
+    size : length s ≡ n
+    size = long ∙ length-take n t ∙ omega arith
+
+    within : (k : ℕ) → k < n → get_or (s ++ drop n t) k 0 ≡ get_or s k 0
+    within k b = get_or_append_left s (drop n t) 0 k (omega (arith, size))
+
+    past : (k : ℕ) → n ≤ k → get_or (s ++ drop n t) k 0 ≡ get_or t k 0
+    past k b =
+        let e : n + (k - n) ≡ k = omega arith in
+        get_or-append_right s (drop n t) n k 0 size b ∙ get_or-drop n t (k - n) 0 ∙ ap (λ j. get_or t j 0) e

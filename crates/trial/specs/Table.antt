@@ -9,9 +9,13 @@ vacant t k = slice_index t k == 4294967295
 unfoldable pub placed : List ℕ → ℕ → ℕ → Bool
 placed t l r = nat_lt l 1024 && (nat_lt r 1024 && nat_lt (1024 + r) (length t))
 
+-- the table has the places of l and r, and they hold x and y
+abbrev pub holds : List ℕ → ℕ → ℕ → ℕ → ℕ → Bool
+holds t l r x y = placed t l r && (slice_index t l == x && slice_index t (1024 + r) == y)
+
 -- l and r are each other's partner
 unfoldable pub paired : List ℕ → ℕ → ℕ → Bool
-paired t l r = placed t l r && (slice_index t l == r && slice_index t (1024 + r) == l)
+paired t l r = holds t l r r l
 
 -- neither l nor r has a partner
 unfoldable pub unpaired : List ℕ → ℕ → ℕ → Bool

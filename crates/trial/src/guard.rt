@@ -6,8 +6,9 @@ ghost use Rattle.std.specs.Prelude.{◌≡◌, true, false};
 use crate::pairs::{NONE, PLACES, places};
 
 // Which places of a table held a partner: bit i % 64 of word i / 64 is place i.
-#[derive(Clone, Copy)]
+#[derive(Clone, Copy, Debug, PartialEq, Eq)]
 pub struct Before {
+    // Kept: the guard holds by value what stood before, with no heap, and a bit for each place is least.
     pub bits: [u64; 32],
 }
 
@@ -17,8 +18,8 @@ impl Before {
         ensures { Marked result.bits table.now }
     {
         let mut bits = [0u64; 32];
-        for i in 0..places(table) {
-            if table[i] != NONE {
+        for (i, place) in table[..places(table)].iter().enumerate() {
+            if *place != NONE {
                 bits[i / 64] |= 1 << (i % 64);
             }
         }
@@ -36,9 +37,10 @@ impl Before {
     fn restore(&self, table: &mut [u32])
         ensures { Restored self.now.bits table.old table.new }
     {
-        for i in 0..places(table) {
+        let end = places(table);
+        for (i, place) in table[..end].iter_mut().enumerate() {
             if !self.held(i) {
-                table[i] = NONE;
+                *place = NONE;
             }
         }
     }
@@ -49,6 +51,7 @@ impl Before {
 pub struct Trial<'a> {
     pub table: &'a mut [u32],
     pub before: Before,
+    // Kept: the guard stays a plain record, whose drop restores the table unless its holder has set this.
     pub kept: bool,
 }
 

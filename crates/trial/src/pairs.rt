@@ -1,8 +1,9 @@
 // The pair table: place l is the partner of local l of the first rule, and place LOCALS + r that of local r of the second.
 ghost use Rattle.std.specs.Prelude.{◌≡◌, min, length};
-ghost use Rattle.trial.specs.Table.{placed, paired, unpaired, recorded, Cleared};
+ghost use Rattle.trial.specs.Table.{placed, holds, paired, unpaired, recorded, Cleared};
 
 // Stands at a place that holds no partner.
+// Kept: the pair table is the caller's words, and the format has this word for no partner.
 pub const NONE: u32 = 4294967295;
 
 // How many locals a rule can have.
@@ -18,6 +19,8 @@ pub(crate) fn places(table: &[u32]) -> usize
     table.len().min(PLACES)
 }
 
+// Kept: the table and two locals are no struct, since the functions of it are public and the table is lent to be changed.
+
 // Both are numbers of locals, and the table has their places.
 fn has_places(table: &[u32], l: u32, r: u32) -> bool
     ensures { result ≡ placed table.now l r }
@@ -25,24 +28,30 @@ fn has_places(table: &[u32], l: u32, r: u32) -> bool
     (l as usize) < LOCALS && (r as usize) < LOCALS && LOCALS + (r as usize) < table.len()
 }
 
+// The table has the places of l and r, and they hold `x` and `y`.
+fn holds(table: &[u32], l: u32, r: u32, x: u32, y: u32) -> bool
+    ensures { result ≡ holds table.now l r x y }
+{
+    if !has_places(table, l, r) {
+        return false;
+    }
+    table[l as usize] == x && table[LOCALS + r as usize] == y
+}
+
 // Local l of the first rule and local r of the second are each other's partner. False where the table lacks a place of theirs.
+#[tactic(auto, unfolding(crate::specs::Table::paired))]
 pub fn paired(table: &[u32], l: u32, r: u32) -> bool
     ensures { result ≡ paired table.now l r }
 {
-    if !has_places(table, l, r) {
-        return false;
-    }
-    table[l as usize] == r && table[LOCALS + r as usize] == l
+    holds(table, l, r, r, l)
 }
 
 // Neither local l of the first rule nor local r of the second has a partner. False where the table lacks a place of theirs.
+#[tactic(auto, unfolding(crate::specs::Table::unpaired))]
 pub fn unpaired(table: &[u32], l: u32, r: u32) -> bool
     ensures { result ≡ unpaired table.now l r }
 {
-    if !has_places(table, l, r) {
-        return false;
-    }
-    table[l as usize] == NONE && table[LOCALS + r as usize] == NONE
+    holds(table, l, r, NONE, NONE)
 }
 
 // Makes local l of the first rule and local r of the second partners. Does nothing where the table lacks a place of theirs.
@@ -59,7 +68,6 @@ pub fn record(table: &mut [u32], l: u32, r: u32)
 pub fn clear(table: &mut [u32])
     ensures { Cleared table.old table.new }
 {
-    for i in 0..places(table) {
-        table[i] = NONE;
-    }
+    let end = places(table);
+    table[..end].fill(NONE);
 }

@@ -2,11 +2,11 @@
 
 #![tactic(auto)]
 
+use cases::answer_input;
 use rule::fault::Fault;
 use rule::intake::{intake, intake_entry};
 use rule::nodes::Nodes;
 use std::io;
-use std::io::Read;
 use tables::line::Entry;
 use tables::table::read_bytes;
 
@@ -14,12 +14,9 @@ use tables::table::read_bytes;
 mod tests;
 
 fn main(rt: HostRuntime) -> io::Result<()> {
-    let mut bytes = Vec::new(rt.alloc());
-    rt.stdin().read_to_end(&mut bytes)?;
-    match read_bytes(rt.alloc(), bytes.as_slice()) {
-        Ok(entries) => answer_all(&rt, entries.as_slice()),
-        Err(fault) => rt.println(&fault),
-    }
+    answer_input(&rt, read_bytes, |entries| {
+        answer_all(&rt, entries.as_slice())
+    })
 }
 
 fn answer_all(rt: &HostRuntime, entries: &[Entry]) -> io::Result<()> {
@@ -33,9 +30,7 @@ fn answer_all(rt: &HostRuntime, entries: &[Entry]) -> io::Result<()> {
     Ok(())
 }
 
+// Kept: one expression, here and in the tests of catalogues, over two types of faults.
 fn number_of(answer: Result<Nodes, Fault>) -> u8 {
-    match answer {
-        Ok(_) => 0,
-        Err(fault) => fault.number(),
-    }
+    answer.err().map_or(0, |fault| fault.number())
 }

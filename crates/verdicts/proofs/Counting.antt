@@ -1,41 +1,35 @@
 -- How many outcomes are of each kind. Assumes nothing.
-use Rattle.std.proofs.Common.{◌≡◌, ℕ, ◌+◌, ◌<◌, true, false, cond, List, [], ◌∷◌, length, get_or, drop, map, refl, ap, ◌∙◌, arith}
-use Rattle.std.proofs.lemmas.List.{at_drop_more}
+use Rattle.std.proofs.Common.{◌≡◌, ◌+◌, cond, List, [], ◌∷◌, length, refl, arith}
+use Rattle.std.proofs.lemmas.List.Sums.{sum_by-cons}
 use Rattle.verdicts.specs.declared.outcome.Kind.{Kind}
 use Rattle.verdicts.specs.declared.outcome.Outcome.{Outcome}
 use Rattle.verdicts.specs.declared.outcome.Outcome.TheVariants.{Keep, Convert, Gone, Added, Refused}
 use Rattle.verdicts.specs.Outcomes.{counted, is_kind, kind_of}
 use Rattle.verdicts.specs.Censuses.{NoneRefused}
 
--- of a row of what has outcomes by f
-module _ {X : Type 0} (f : X → Outcome) (k : Kind) (xs : List X) (i : ℕ) (d : X) where
-  pub one_more : i < length xs → is_kind (kind_of (f (get_or xs i d))) k ≡ true → counted k (map f (drop i xs)) ≡ 1 + counted k (map f (drop (i + 1) xs))
-  one_more l e = at_drop_more (λ ys. counted k (map f ys)) xs i d l ∙ ap (λ b. cond b 1 0 + counted k (map f (drop (i + 1) xs))) e
-
-  pub no_more : i < length xs → is_kind (kind_of (f (get_or xs i d))) k ≡ false → counted k (map f (drop i xs)) ≡ counted k (map f (drop (i + 1) xs))
-  no_more l e = omega (arith, at_drop_more (λ ys. counted k (map f ys)) xs i d l ∙ ap (λ b. cond b 1 0 + counted k (map f (drop (i + 1) xs))) e)
+-- one outcome more at the front
+counted-cons : (k : Kind) (o : Outcome) (os : List Outcome) → counted k (o ∷ os) ≡ cond (is_kind (kind_of o) k) 1 0 + counted k os
+counted-cons k o os = sum_by-cons (λ x. cond (is_kind (kind_of x) k) 1 0) o os
 
 -- each outcome is of one kind
 pub whole : (os : List Outcome) → counted Kind.Keep os + counted Kind.Convert os + counted Kind.Gone os + counted Kind.Added os + counted Kind.Refused os ≡ length os
 whole [] = omega arith
-whole (Keep ∷ os) = omega (arith, whole os)
-whole (Convert ∷ os) = omega (arith, whole os)
-whole (Gone ∷ os) = omega (arith, whole os)
-whole (Added ∷ os) = omega (arith, whole os)
-whole (Refused side fault ∷ os) = omega (arith, whole os)
+whole (o ∷ os) =
+    let one : cond (is_kind (kind_of o) Kind.Keep) 1 0 + cond (is_kind (kind_of o) Kind.Convert) 1 0 + cond (is_kind (kind_of o) Kind.Gone) 1 0 + cond (is_kind (kind_of o) Kind.Added) 1 0 + cond (is_kind (kind_of o) Kind.Refused) 1 0 ≡ 1 = elim o as (λ o. cond (is_kind (kind_of o) Kind.Keep) 1 0 + cond (is_kind (kind_of o) Kind.Convert) 1 0 + cond (is_kind (kind_of o) Kind.Gone) 1 0 + cond (is_kind (kind_of o) Kind.Added) 1 0 + cond (is_kind (kind_of o) Kind.Refused) 1 0 ≡ 1) [ Keep ↦ refl | Convert ↦ refl | Gone ↦ refl | Added ↦ refl | Refused s f ↦ refl ] in
+    omega (arith, whole os, counted-cons Kind.Keep o os, counted-cons Kind.Convert o os, counted-cons Kind.Gone o os, counted-cons Kind.Added o os, counted-cons Kind.Refused o os)
 
-pub none-refused : (os : List Outcome) → counted Kind.Refused os ≡ 0 → NoneRefused os
-none-refused [] e = tt
-none-refused (Keep ∷ os) e = (tt, none-refused os (omega (arith, e)))
-none-refused (Convert ∷ os) e = (tt, none-refused os (omega (arith, e)))
-none-refused (Gone ∷ os) e = (tt, none-refused os (omega (arith, e)))
-none-refused (Added ∷ os) e = (tt, none-refused os (omega (arith, e)))
-none-refused (Refused side fault ∷ os) e = absurd (omega (arith, e))
+pub none_refused : (os : List Outcome) → counted Kind.Refused os ≡ 0 → NoneRefused os
+none_refused [] e = tt
+none_refused (Keep ∷ os) e = (tt, none_refused os (omega (arith, counted-cons Kind.Refused Keep os)))
+none_refused (Convert ∷ os) e = (tt, none_refused os (omega (arith, counted-cons Kind.Refused Convert os)))
+none_refused (Gone ∷ os) e = (tt, none_refused os (omega (arith, counted-cons Kind.Refused Gone os)))
+none_refused (Added ∷ os) e = (tt, none_refused os (omega (arith, counted-cons Kind.Refused Added os)))
+none_refused (Refused side fault ∷ os) e = absurd (omega (arith, counted-cons Kind.Refused (Refused side fault) os))
 
 pub refused_none : (os : List Outcome) → NoneRefused os → counted Kind.Refused os ≡ 0
 refused_none [] h = refl
-refused_none (Keep ∷ os) h = omega (arith, refused_none os h.1)
-refused_none (Convert ∷ os) h = omega (arith, refused_none os h.1)
-refused_none (Gone ∷ os) h = omega (arith, refused_none os h.1)
-refused_none (Added ∷ os) h = omega (arith, refused_none os h.1)
+refused_none (Keep ∷ os) h = omega (arith, counted-cons, refused_none os h.1)
+refused_none (Convert ∷ os) h = omega (arith, counted-cons, refused_none os h.1)
+refused_none (Gone ∷ os) h = omega (arith, counted-cons, refused_none os h.1)
+refused_none (Added ∷ os) h = omega (arith, counted-cons, refused_none os h.1)
 refused_none (Refused side fault ∷ os) h = absurd h.0

@@ -33,5 +33,5 @@ Lacks es name = (i : ℕ) (d : Entry) → i < length es → name_of (slice_index
 
 -- a rule with this name, or none where no rule has it
 abbrev pub FoundAs : List Entry → List ℕ → Option (Bor Entry) → Type 0
-FoundAs es name None = (i : ℕ) (d : Entry) → i < length es → name_of (slice_index_or es i d) ≢ name
-FoundAs es name (Some e) = (i : ℕ) × (i < length es) × ((d : Entry) → e.now ≡ slice_index_or es i d) × (name_of e.now ≡ name)
+FoundAs es name None = Lacks es name
+FoundAs es name (Some e) = Named es name e.now

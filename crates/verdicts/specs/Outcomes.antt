@@ -1,5 +1,5 @@
 -- What becomes of a rule when a table is changed, and how many rules have each outcome. Assumes nothing.
-use Rattle.std.specs.Prelude.{◌≡◌, ℕ, ◌+◌, ◌<◌, ◌≤◌, Bool, true, false, cond, List, [], ◌∷◌, length, Some, None, Ok, Err, Option, Result, ◌==◌}
+use Rattle.std.specs.Prelude.{◌≡◌, ℕ, ◌<◌, ◌≤◌, Bool, true, false, List, length, Some, None, Ok, Err, Option, Result, ◌==◌, count_by}
 use Rattle.rule.specs.Faults.{number_of}
 use Rattle.rule.specs.Intake as intake
 use Rattle.rule.specs.Trees.{tree_of}
@@ -32,8 +32,7 @@ is_kind a b = rank a == rank b
 
 -- how many of the outcomes are of a kind
 abbrev pub counted : Kind → List Outcome → ℕ
-counted k [] = 0
-counted k (o ∷ os) = cond (is_kind (kind_of o) k) 1 0 + counted k os
+counted k os = count_by (λ o. is_kind (kind_of o) k) os
 
 -- the outcome of a rule that is in both tables, by what comparing the two says
 abbrev pub answered : Result Bool CompareFault → Option Outcome

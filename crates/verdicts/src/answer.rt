@@ -5,26 +5,22 @@ use crate::pairs::PairTable;
 use rule::fault::Fault;
 use sameness::compare::{CompareFault, compare};
 
+// Which of two runs of words is no rule, and why.
 #[derive(Clone, Copy)]
-pub enum Answer {
-    // with the partners of their locals
-    Same(PairTable),
-    Different,
-    FirstRefused(Fault),
-    SecondRefused(Fault),
+pub enum Unfit {
+    First(Fault),
+    Second(Fault),
 }
 
-pub fn compare_rules(first: &[u32], second: &[u32]) -> Answer
+// The partners of their locals where the two are the same rule, and none where they are different.
+pub fn compare_rules(first: &[u32], second: &[u32]) -> Result<Option<PairTable>, Unfit>
     ensures { AnsweredAs first.now second.now result }
 {
     let mut pairs = PairTable::new();
     match compare(first, second, &mut pairs.places) {
-        Ok(true) => Answer::Same(pairs),
-        Ok(false) => Answer::Different,
-        Err(refusal) => match refusal {
-            CompareFault::First(fault) => Answer::FirstRefused(fault),
-            CompareFault::Second(fault) => Answer::SecondRefused(fault),
-            CompareFault::PairTable => unreachable(),
-        },
+        Ok(same) => Ok(same.then_some(pairs)),
+        Err(CompareFault::First(fault)) => Err(Unfit::First(fault)),
+        Err(CompareFault::Second(fault)) => Err(Unfit::Second(fault)),
+        Err(CompareFault::PairTable) => unreachable(),
     }
 }

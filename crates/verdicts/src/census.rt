@@ -5,6 +5,7 @@ ghost use Rattle.verdicts.specs.Outcomes.{counted};
 ghost use Rattle.verdicts.specs.declared.outcome.Outcome.{Outcome};
 
 use crate::outcome::{Kind, Outcome};
+use crate::rules::Rules;
 use crate::survey::Line;
 use std::fmt;
 
@@ -35,15 +36,14 @@ impl HasOutcome for Line<'_> {
 fn count<T: HasOutcome>(items: &[T], kind: Kind) -> usize
     ensures { result ≡ counted kind (map T.outcome items.now) }
 {
-    let mut n = 0;
-    for item in items {
-        if item.outcome().kind().is(kind) {
-            n += 1;
-        }
-    }
-    n
+    items
+        .iter()
+        .map(|item| item.outcome())
+        .filter(|outcome| Kind::from(*outcome) == kind)
+        .count()
 }
 
+#[tactic(auto, using(crate::proofs::Counting::whole, crate::proofs::Counting::none_refused, crate::proofs::Counting::refused_none))]
 fn census_of<T: HasOutcome>(items: &[T]) -> Census
     ensures { CensusOf (map T.outcome items.now) result }
 {
@@ -100,15 +100,15 @@ impl fmt::Display for Census {
             added,
             refused,
         } = *self;
-        let rules = keep
-            .saturating_add(convert)
-            .saturating_add(gone)
-            .saturating_add(added)
-            .saturating_add(refused);
-        let noun = if rules == 1 { "rule" } else { "rules" };
+        let rules = Rules(
+            keep.saturating_add(convert)
+                .saturating_add(gone)
+                .saturating_add(added)
+                .saturating_add(refused),
+        );
         write!(
             f,
-            "{rules} {noun}: {keep} keep, {convert} convert, {gone} gone, {added} new, {refused} refused; "
+            "{rules}: {keep} keep, {convert} convert, {gone} gone, {added} new, {refused} refused; "
         )?;
         if self.is_certified() {
             f.write_str("certified")

@@ -1,11 +1,13 @@
 // Two rules of a table compared by their names.
+ghost use Rattle.std.specs.Prelude.{◌≡◌};
 ghost use Rattle.verdicts.specs.Comparisons.{ComparisonAs};
+ghost use Rattle.verdicts.specs.declared.comparison.Uncompared.TheVariants.{Memory};
 
-use crate::answer::{Answer, compare_rules};
-use crate::names::{find, index};
+use crate::answer::{Unfit, compare_rules};
+use crate::names::Names;
+use crate::pairs::PairTable;
 use crate::verdict::Verdict;
-use rule::fault::Fault;
-use std::alloc::Global;
+use std::alloc::{AllocError, Global};
 use std::fmt;
 use tables::line::Entry;
 
@@ -14,7 +16,8 @@ use tables::line::Entry;
 pub struct Comparison<'n> {
     pub first: &'n str,
     pub second: &'n str,
-    pub answer: Answer,
+    // the partners of their locals where they are the same
+    pub answer: Result<Option<PairTable>, Unfit>,
 }
 
 #[derive(Clone, Copy)]
@@ -22,6 +25,14 @@ pub enum Uncompared<'n> {
     // no rule has this name
     Unnamed(&'n str),
     Memory,
+}
+
+impl<'n> From<AllocError> for Uncompared<'n> {
+    ghost from_gives = { λ _ fault. fault ≡ Memory };
+
+    fn from(_e: AllocError) -> Uncompared<'n> {
+        Uncompared::Memory
+    }
 }
 
 pub fn compare_named<'n>(
@@ -32,15 +43,9 @@ pub fn compare_named<'n>(
 ) -> Result<Comparison<'n>, Uncompared<'n>>
     ensures { ComparisonAs entries.now first.now second.now result }
 {
-    let Ok(names) = index(heap, entries) else {
-        return Err(Uncompared::Memory);
-    };
-    let Some(one) = find(entries, &names, first) else {
-        return Err(Uncompared::Unnamed(first));
-    };
-    let Some(other) = find(entries, &names, second) else {
-        return Err(Uncompared::Unnamed(second));
-    };
+    let names = Names::of(heap, entries)?;
+    let one = names.get(first).ok_or(Uncompared::Unnamed(first))?;
+    let other = names.get(second).ok_or(Uncompared::Unnamed(second))?;
     let answer = compare_rules(one.words.as_slice(), other.words.as_slice());
     Ok(Comparison {
         first,
@@ -52,15 +57,10 @@ pub fn compare_named<'n>(
 impl<'n> fmt::Display for Comparison<'n> {
     fn fmt<W: fmt::Write>(&self, f: &mut fmt::Formatter<W>) -> fmt::Result {
         match self.answer {
-            Answer::Same(pairs) => write!(f, "same{pairs}"),
-            Answer::Different => f.write_str("different"),
-            Answer::FirstRefused(fault) => refusal(f, self.first, fault),
-            Answer::SecondRefused(fault) => refusal(f, self.second, fault),
+            Ok(Some(pairs)) => write!(f, "same{pairs}"),
+            Ok(None) => f.write_str("different"),
+            Err(Unfit::First(fault)) => write!(f, "{}: {}", self.first, Verdict(Err(fault))),
+            Err(Unfit::Second(fault)) => write!(f, "{}: {}", self.second, Verdict(Err(fault))),
         }
     }
-}
-
-fn refusal<W: fmt::Write>(f: &mut fmt::Formatter<W>, name: &str, fault: Fault) -> fmt::Result {
-    let verdict = Verdict::Refused(fault);
-    write!(f, "{name}: {verdict}")
 }

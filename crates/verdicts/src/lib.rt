@@ -8,6 +8,7 @@ pub mod comparison;
 pub mod names;
 pub mod outcome;
 pub mod pairs;
+pub mod rules;
 pub mod survey;
 #[cfg(test)]
 mod tests;

@@ -1,31 +1,49 @@
 // The rules of a table by their names.
-ghost use Rattle.std.specs.Prelude.{IfOk};
-ghost use Rattle.verdicts.specs.Names.{Indexes, FoundAs};
+ghost use Rattle.std.specs.Prelude.{◌≡◌, IfOk};
+ghost use Rattle.verdicts.specs.Names.{FoundAs};
 
 use std::alloc::{AllocError, Global};
 use std::collections::BTreeMap;
+use std::marker::Model;
 use tables::line::Entry;
 
-// At each name the place of its rule.
-pub type Names = BTreeMap<String, usize>;
-
-pub fn index(heap: Global, entries: &[Entry]) -> Result<Names, AllocError>
-    ensures { IfOk result (λ m. Indexes entries.now m) }
-{
-    let mut names = BTreeMap::new(heap);
-    for i in 0..entries.len() {
-        let name = String::from_str(heap, entries[i].name.as_str())?;
-        names.insert(name, i)?;
-    }
-    Ok(names)
+// A table whose rules are found by their names. A contract sees it as the table's rules.
+#[derive(Drop)]
+pub struct Names<'a> {
+    entries: &'a [Entry],
+    // at each name the place of its rule
+    places: BTreeMap<String, usize>,
 }
 
-// The rule of this name among the rules that were indexed.
-pub fn find<'a>(entries: &'a [Entry], names: &Names, name: &str) -> Option<&'a Entry>
-    ensures { Indexes entries.now names.now → FoundAs entries.now name.now result }
-{
-    match names.get(name).copied() {
-        Some(i) => entries.get(i),
-        None => None,
+impl<'a> Model for Names<'a> {
+    ghost use Rattle.std.specs.Prelude.{List};
+    ghost use Rattle.tables.specs.declared.line.Entry.{Entry};
+    ghost use Rattle.verdicts.specs.Names.{Indexes};
+
+    ghost Value = { List Entry };
+
+    ghost view = { λ names. names.entries.now };
+
+    ghost invariant = { λ names. Indexes names.entries.now names.places };
+}
+
+impl<'a> Names<'a> {
+    pub fn of(heap: Global, entries: &'a [Entry]) -> Result<Names<'a>, AllocError>
+        ensures { IfOk result (λ names. names ≡ entries.now) }
+    {
+        let mut places = BTreeMap::new(heap);
+        for (i, entry) in entries.iter().enumerate() {
+            let name = String::from_str(heap, entry.name.as_str())?;
+            places.insert(name, i)?;
+        }
+        Ok(Names { entries, places })
+    }
+
+    // The rule of this name.
+    pub fn get(&self, name: &str) -> Option<&'a Entry>
+        ensures { FoundAs self.now name.now result }
+    {
+        let place = self.places.get(name).copied()?;
+        self.entries.get(place)
     }
 }

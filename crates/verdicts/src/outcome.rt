@@ -1,8 +1,8 @@
 // What becomes of a rule when a table is changed.
 ghost use Rattle.std.specs.Prelude.{◌≡◌};
-ghost use Rattle.verdicts.specs.Outcomes.{JudgedAs, OutcomeAs, OutcomeBy, SoleAs, answered, is_kind, kind_of};
+ghost use Rattle.verdicts.specs.Outcomes.{JudgedAs, OutcomeAs, OutcomeBy, SoleAs, answered, kind_of};
 
-use crate::answer::{Answer, compare_rules};
+use crate::pairs::PairTable;
 use rule::fault::Fault;
 use rule::intake::intake;
 use sameness::compare::{CompareFault, compare};
@@ -15,6 +15,7 @@ pub enum Side {
     New,
 }
 
+// Kept: a refusal is one of the outcomes that a census counts and a survey prints, and no failure of its maker, so this is no Result.
 #[derive(Clone, Copy)]
 pub enum Outcome {
     // in both tables, and the same
@@ -29,7 +30,7 @@ pub enum Outcome {
 }
 
 // An outcome without what it holds.
-#[derive(Clone, Copy)]
+#[derive(Clone, Copy, PartialEq, Eq)]
 pub enum Kind {
     Keep,
     Convert,
@@ -38,19 +39,11 @@ pub enum Kind {
     Refused,
 }
 
-impl Kind {
-    pub(crate) fn is(self, other: Kind) -> bool
-        ensures { result ≡ is_kind self other }
-    {
-        self as u8 == other as u8
-    }
-}
+impl From<Outcome> for Kind {
+    ghost from_gives = { λ outcome kind. kind ≡ kind_of outcome };
 
-impl Outcome {
-    pub(crate) fn kind(self) -> Kind
-        ensures { result ≡ kind_of self }
-    {
-        match self {
+    fn from(outcome: Outcome) -> Kind {
+        match outcome {
             Outcome::Keep => Kind::Keep,
             Outcome::Convert => Kind::Convert,
             Outcome::Gone => Kind::Gone,
@@ -58,7 +51,9 @@ impl Outcome {
             Outcome::Refused(_, _) => Kind::Refused,
         }
     }
+}
 
+impl Outcome {
     // The outcome of a rule that is in both tables, by what comparing the two says.
     // `None` where the pair table was too short for a comparison.
     pub fn answered(answer: Result<bool, CompareFault>) -> Option<Outcome>
@@ -77,12 +72,8 @@ impl Outcome {
     pub fn judged(old: &[u32], new: &[u32]) -> Outcome
         ensures { OutcomeAs old.now new.now result }
     {
-        match compare_rules(old, new) {
-            Answer::Same(_) => Outcome::Keep,
-            Answer::Different => Outcome::Convert,
-            Answer::FirstRefused(fault) => Outcome::Refused(Side::Old, fault),
-            Answer::SecondRefused(fault) => Outcome::Refused(Side::New, fault),
-        }
+        let mut pairs = PairTable::new();
+        outcome_of(old, new, &mut pairs.places).unwrap()
     }
 
     // The outcome of a rule that is in one table alone.
@@ -109,10 +100,10 @@ pub fn outcome_of(old: &[u32], new: &[u32], pairs: &mut [u32]) -> Option<Outcome
 
 impl fmt::Display for Side {
     fn fmt<W: fmt::Write>(&self, f: &mut fmt::Formatter<W>) -> fmt::Result {
-        match self {
-            Side::Old => f.write_str("OLD"),
-            Side::New => f.write_str("NEW"),
-        }
+        f.write_str(match self {
+            Side::Old => "OLD",
+            Side::New => "NEW",
+        })
     }
 }
 
@@ -124,9 +115,7 @@ impl fmt::Display for Outcome {
             Outcome::Gone => f.write_str("gone"),
             Outcome::Added => f.write_str("new"),
             Outcome::Refused(side, fault) => {
-                let number = fault.number();
-                let ground = fault.ground();
-                write!(f, "refused {number} in {side}, {ground}")
+                write!(f, "refused {} in {side}, {fault}", fault.number())
             }
         }
     }

@@ -6,6 +6,7 @@ use trial::pairs::{LOCALS, NONE, PLACES};
 
 #[derive(Clone, Copy)]
 pub struct PairTable {
+    // Kept: an array, since the format has a place for each local of two rules.
     pub places: [u32; PLACES],
 }
 
@@ -17,6 +18,14 @@ impl PairTable {
         PairTable {
             places: [NONE; PLACES],
         }
+    }
+}
+
+impl Default for PairTable {
+    ghost is_default = { λ table. table.places ≡ replicate 2048 4294967295 };
+
+    fn default() -> PairTable {
+        PairTable::new()
     }
 }
 

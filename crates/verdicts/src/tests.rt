@@ -35,7 +35,7 @@ fn shows_verdicts(rt: HostRuntime) -> Result<(), Fail> {
     shows(
         &rt,
         heap,
-        Verdict::Refused(Fault::SameAsNothing),
+        Verdict(Err(Fault::SameAsNothing)),
         "refused 7, a code that is the same as nothing",
     )?;
     let one = Tally {

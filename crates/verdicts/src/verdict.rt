@@ -2,25 +2,20 @@
 ghost use Rattle.std.specs.Prelude.{◌≡◌, ◌+◌, length};
 ghost use Rattle.verdicts.specs.Verdicts.{VerdictOn, acceptances};
 
+use crate::rules::Rules;
 use rule::fault::Fault;
 use rule::intake::intake_entry;
 use std::fmt;
 
+// A rule is accepted, or it is refused by this fault.
 #[derive(Clone, Copy)]
-pub enum Verdict {
-    Accepted,
-    Refused(Fault),
-}
+pub struct Verdict(pub Result<(), Fault>);
 
 impl fmt::Display for Verdict {
     fn fmt<W: fmt::Write>(&self, f: &mut fmt::Formatter<W>) -> fmt::Result {
-        match self {
-            Verdict::Accepted => f.write_str("accepted"),
-            Verdict::Refused(fault) => {
-                let number = fault.number();
-                let ground = fault.ground();
-                write!(f, "refused {number}, {ground}")
-            }
+        match self.0 {
+            Ok(()) => f.write_str("accepted"),
+            Err(fault) => write!(f, "refused {}, {fault}", fault.number()),
         }
     }
 }
@@ -28,10 +23,7 @@ impl fmt::Display for Verdict {
 pub fn verdict_of(words: &[u32]) -> Verdict
     ensures { VerdictOn words.now result }
 {
-    match intake_entry(words) {
-        Ok(_) => Verdict::Accepted,
-        Err(fault) => Verdict::Refused(fault),
-    }
+    Verdict(intake_entry(words).map(|_| ()))
 }
 
 // How many rules are accepted, and how many are refused.
@@ -46,12 +38,7 @@ impl Tally {
         ensures accepted { result.accepted ≡ acceptances verdicts.now }
         ensures whole { result.accepted + result.refused ≡ length verdicts.now }
     {
-        let mut accepted = 0;
-        for v in verdicts {
-            if let Verdict::Accepted = v {
-                accepted += 1;
-            }
-        }
+        let accepted = verdicts.iter().filter(|verdict| verdict.0.is_ok()).count();
         let refused = verdicts.len() - accepted;
         Tally { accepted, refused }
     }
@@ -59,10 +46,8 @@ impl Tally {
 
 impl fmt::Display for Tally {
     fn fmt<W: fmt::Write>(&self, f: &mut fmt::Formatter<W>) -> fmt::Result {
-        let accepted = self.accepted;
-        let refused = self.refused;
-        let rules = accepted.saturating_add(refused);
-        let noun = if rules == 1 { "rule" } else { "rules" };
-        write!(f, "{rules} {noun}: {accepted} accepted, {refused} refused")
+        let Tally { accepted, refused } = *self;
+        let rules = Rules(accepted.saturating_add(refused));
+        write!(f, "{rules}: {accepted} accepted, {refused} refused")
     }
 }

@@ -1,20 +1,36 @@
-use Rattle.std.proofs.Common.{List, drop, Ok, Err, Result, String, codes, refl, inl, inr, rules}
-use Rattle.std.specs.declared.alloc.Global.{Global}
-use Rattle.arguments.specs.Judging.{ChangeAs, JudgingAs}
-use Rattle.arguments.specs.Misuses.{Is}
+use Rattle.std.proofs.Common.{List, Result, String, Global, IsErrAnd, inl, inr, rules}
+use Rattle.std.proofs.lemmas.Result.{err_from_is_err_and}
+use Rattle.arguments.specs.Files.{AloneAs, ChangedAs, ComparedAs, FileAs}
+use Rattle.arguments.specs.Judging.{JudgingAs, RefusedAs}
+use Rattle.arguments.specs.Told.{Retells}
 use Rattle.arguments.specs.declared.judging.Command.{Command}
-use Rattle.arguments.specs.declared.judging.Command.TheVariants.{Help, Check, Compare, Change}
 use Rattle.arguments.specs.declared.judging.Misuse.{Misuse}
+use Rattle.arguments.specs.declared.misuse.Expected.TheVariants.{Table}
+use Rattle.arguments.specs.declared.misuse.Misuse.{Misuse as Wrong}
+use Rattle.arguments.proofs.Refusals.{alone_refused, change_refused, compare_refused, table_refused}
 use Rattle.arguments.proofs.Tails.{read_as}
 use Rattle.arguments.proofs.judging.parse_args.Goals as goal
 
--- what is read after "change" is what all the arguments are read as
-changing : (args : List (String Global)) (r : Result Command Misuse) → Is args 1 (codes "change") → ChangeAs (drop 2 args) r → JudgingAs args r
-changing args (Ok Help) h p = absurd p
-changing args (Ok (Check table)) h p = absurd p
-changing args (Ok (Compare table first second)) h p = absurd p
-changing args (Ok (Change old new)) h p = (h, p)
-changing args (Err m) h p = inr (inr (inr (inl (h, p))))
+-- what a reader refuses is refused by its name
+refused : (args : List (String Global)) (r : Result Command Misuse) {m : Wrong} → IsErrAnd r (λ j. Retells m j) → ((j : Misuse) → Retells m j → RefusedAs args j) → JudgingAs args r
+refused args r q p = let e = err_from_is_err_and r q in rw e.1 (p e.0 e.2)
 
-pub returns-in-change : goal.returns-in-change
-returns-in-change c = changing c.args.args.now c.tables_to_compare.result (search rules) (read_as ChangeAs c.args.args.now refl c.tables_to_compare.ensures)
+pub returns-in_err-one_file-in-check : goal.returns-in_err-one_file-in-check
+returns-in_err-one_file-in-check c =
+    refused c.args.args.now c.from_residual-in_err-one_file-in-check.result c.from_residual-in_err-one_file-in-check.ensures.1
+    (λ j q. inr (inl (search rules, table_refused _ _ j q (read_as (FileAs Table) c.args.args.now c.in_err-one_file-in-check.was c.one_file.ensures))))
+
+pub returns-in_err-table_and_names-in-compare : goal.returns-in_err-table_and_names-in-compare
+returns-in_err-table_and_names-in-compare c =
+    refused c.args.args.now c.from_residual-in_err-table_and_names-in-compare.result c.from_residual-in_err-table_and_names-in-compare.ensures.1
+    (λ j q. inr (inr (inl (search rules, compare_refused _ _ j q (read_as ComparedAs c.args.args.now c.in_err-table_and_names-in-compare.was c.table_and_names.ensures)))))
+
+pub returns-in_err-two_tables-in-change : goal.returns-in_err-two_tables-in-change
+returns-in_err-two_tables-in-change c =
+    refused c.args.args.now c.from_residual-in_err-two_tables-in-change.result c.from_residual-in_err-two_tables-in-change.ensures.1
+    (λ j q. inr (inr (inr (inl (search rules, change_refused _ _ j q (read_as ChangedAs c.args.args.now c.in_err-two_tables-in-change.was c.two_tables.ensures))))))
+
+pub returns-in_err-alone-in-help : goal.returns-in_err-alone-in-help
+returns-in_err-alone-in-help c =
+    refused c.args.args.now c.from_residual.result c.from_residual.ensures.1
+    (λ j q. inl (elim c.in-help.is [ inl q ↦ inl (search rules) | inr q ↦ inr (search rules) ], alone_refused _ _ j q (read_as (AloneAs {A = Unit {0}}) c.args.args.now c.in_err-alone-in-help.was c.alone.ensures)))

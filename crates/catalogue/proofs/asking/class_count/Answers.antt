@@ -1,5 +1,5 @@
 use Rattle.std.proofs.Common.{refl}
-use Rattle.hashing.specs.Words.{of_words}
+use Rattle.hashing.specs.Words.{hash_by}
 use Rattle.catalogue.specs.States.{state}
 use Rattle.catalogue.proofs.Promised.{promised}
 use Rattle.catalogue.proofs.asking.class_count.Goals as goal
@@ -11,8 +11,8 @@ returns g c =
     let v = c.args.kind.now in
     record {
       count = refl;
-      promise = λ h past. promised m.meets m.same m.feed v
+      promise = λ h past. promised m.meets m.same m.feed g.K.Fault.Numbered.number met.one_fault v
           (λ f. record { reflexive = met.reflexive v; symmetric = met.symmetric v; transitive = met.transitive v })
-          (of_words g.H.Hasher.begun g.H.Hasher.fed g.H.Hasher.ended) h
+          (hash_by g.H.Hasher) h
           (state c.args.cat.now c.args.slots.now c.args.units.now) past;
     }

@@ -1,16 +1,10 @@
 use Rattle.std.proofs.Common.{◌≡◌, ℕ, ◌+◌, length, set, Some, None, Option, refl, ap, arith}
 use Rattle.std.proofs.lemmas.Slice.{put_mid-paste}
-use Rattle.std.proofs.lemmas.Result.{err_from_is_err_and}
-use Rattle.hashing.specs.Words.{of_words}
+use Rattle.hashing.specs.Words.{hash_by}
 use Rattle.catalogue.specs.Calls.{Classed}
 use Rattle.catalogue.specs.States.{State, numbers_of, state, slot_at}
 use Rattle.catalogue.proofs.calls.enter.Goals as goal
 use Rattle.catalogue.proofs.calls.enter.Goals.{in-Some, in-None}
-
-pub returns-in_err-intake : goal.returns-in_err-intake
-returns-in_err-intake g c =
-    let p = err_from_is_err_and c.from_residual.result c.from_residual.ensures.1 in
-    rw (p.1, p.2) (c.in_err-intake.ensures, refl)
 
 -- the class, by an entry that is the same
 by-entry : {U : Type 0} (s : State U) (r : Option ℕ) (i : ℕ) (p : ℕ × ℕ) → r ≡ Some i → p ≡ ((slot_at s.slots i).class, s.numbers.classes) → Classed s r p.0 p.1
@@ -22,17 +16,18 @@ by-none s r p e q = rw e (ap (λ (x : ℕ × ℕ). x.0) q, ap (λ (x : ℕ × �
 
 pub returns : goal.returns
 returns g c =
-    let f = of_words g.H.Hasher.begun g.H.Hasher.fed g.H.Hasher.ended in
+    let f = hash_by g.H.Hasher in
     let s = state c.args.cat.now c.args.slots.now c.args.units.now in
-    let sound = c.in_ok-intake.ensures in
-    let h = c.hash-hash.ensures sound in (
-      record { sound = sound; slot = (omega arith, omega arith); room = omega arith },
+    let sound = c.in_ok-intake.ensures.sound in
+    let h = c.hash-hash.ensures sound in
+    let end = rw c.in_ok-end.ensures.ok_part at c.end_within.ensures in (
+      record { sound = sound; slot = (omega arith, omega arith); room = omega (arith, end) },
       record {
         number = refl;
         slots = ap (λ (x : ℕ). set c.args.slots.now c.args.cat.now.standing (record { start = c.args.cat.now.used; len = length c.args.run.now; hash = x; class = c.match-first_same.class.0; begun = c.args.cat.now.classes })) h;
-        units = put_mid-paste c.args.cat.now.used _ c.args.units.now _ c.args.run.now (length c.args.run.now) c.copy_from_slice.ensures.after (omega arith) refl;
+        units = put_mid-paste c.args.cat.now.used _ c.args.units.now _ c.args.run.now (length c.args.run.now) c.copy_from_slice.ensures.after (omega (arith, end)) (omega (arith, end));
         standing = refl;
-        used = refl;
+        used = end.0;
         class = λ intact. (
           c.first_same.result,
           c.first_same.ensures.first f (numbers_of c.args.cat.now) refl intact sound h,

@@ -2,7 +2,7 @@ use Rattle.std.proofs.Common.{◌+◌, [], length, vec_items, ap, ◌∙◌, sub
 use Rattle.std.proofs.lemmas.List.{take_all, length_push}
 use Rattle.catalogue.specs.Promise.{Reached}
 use Rattle.catalogue.specs.States.{state}
-use Rattle.hashing.specs.Words.{of_words}
+use Rattle.hashing.specs.Words.{hash_by}
 use Rattle.kinds.specs.Rules.{rules}
 use Rattle.classes.specs.Tables.{enterings}
 use Rattle.classes.proofs.Enterings.{entered-more}
@@ -10,7 +10,7 @@ use Rattle.classes.proofs.table.enter_rules.Goals as goal
 
 pub loop-entry-preserved : goal.loop-entry-preserved
 loop-entry-preserved g c =
-    let f = of_words g.H.Hasher.begun g.H.Hasher.fed g.H.Hasher.ended in
+    let f = hash_by g.H.Hasher in
     let pushed = c.in_ok-push.ensures.items in (
       ap length pushed ∙ length_push (vec_items c.loop-entry.answers) c.enter-answer.result ∙ ap (λ n. n + 1) c.loop-entry.invariant.0,
       entered-more (rules f) c.args.entries.now c.loop-entry.entry-index c.entry-item.result c.as_slice.result.now
@@ -21,7 +21,7 @@ loop-entry-preserved g c =
 
 pub returns : goal.returns
 returns g c =
-    let f = of_words g.H.Hasher.begun g.H.Hasher.fed g.H.Hasher.ended in
+    let f = hash_by g.H.Hasher in
     let all = take_all c.loop-entry.entry-index c.args.entries.now c.loop-entry-test.false in
     record {
       all = c.loop-entry.invariant.0 ∙ omega arith;

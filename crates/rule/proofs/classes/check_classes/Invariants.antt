@@ -3,4 +3,4 @@ use Rattle.rule.specs.Intake.{KidsPass}
 use Rattle.rule.proofs.classes.check_classes.Given as goal
 
 abbrev pub invariant-loop-i : goal.invariant-loop-i
-invariant-loop-i l = (j : ℕ) → j < l.i → KidsPass l.rule.words.now j
+invariant-loop-i l = (j : ℕ) → j < l.i → KidsPass l.tree.rule.words.now j

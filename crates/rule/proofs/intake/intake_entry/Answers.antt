@@ -1,6 +1,7 @@
-use Rattle.std.proofs.Common.{arith}
+use Rattle.std.proofs.Common.{sym, subst, refl, arith}
+use Rattle.rule.specs.Intake.{Read}
 use Rattle.rule.proofs.Grounds.{accepted-read}
 use Rattle.rule.proofs.intake.intake_entry.Goals as goal
 
-pub check_comparable-requires : goal.check_comparable-requires
-check_comparable-requires c = accepted-read 6 _ _ _ (omega arith) c.in_ok-nodes.ensures (omega arith)
+pub invariant_of-check_comparable : goal.invariant_of-check_comparable
+invariant_of-check_comparable c = record { read = subst (λ os. Read c.args.words.now os) (sym c.places.ensures) (accepted-read 6 c.in_ok-nodes.nodes.count _ c.in_ok-nodes.nodes (omega arith) c.in_ok-nodes.ensures refl) }

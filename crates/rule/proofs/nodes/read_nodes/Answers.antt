@@ -1,4 +1,5 @@
 use Rattle.std.proofs.Common.{ℕ, ◌+◌, ◌<◌, ◌≤◌, List, length, refl, ◌∙◌, arith, length-set, length-take}
+use Rattle.std.proofs.lemmas.Bool.Decides.{nat_tests}
 use Rattle.rule.specs.declared.fault.Fault.TheVariants.{TooLong, CutShort}
 use Rattle.rule.specs.Intake.{Refused, Short}
 use Rattle.rule.specs.Run.{kids_at}
@@ -12,11 +13,11 @@ cut ws os p s h l f = refused-at ws 1 CutShort refl (upto-more ws 0 TooLong refl
 pub loop-place-init : goal.loop-place-init
 loop-place-init c = (found_none _, omega arith, omega arith, refl)
 
-pub returns-then-words-place-lt4 : goal.returns-then-words-place-lt4
-returns-then-words-place-lt4 c = (cut _ _ _ (omega arith) c.loop-place-test.true (omega arith) c.loop-place.invariant.0, omega arith)
+pub returns-then-words-place-lt4-clause-err : goal.returns-then-words-place-lt4-clause-err
+returns-then-words-place-lt4-clause-err c = (cut _ _ _ (omega arith) c.loop-place-test.true (omega arith) c.loop-place.invariant.0, omega arith)
 
-pub returns-then-words-place : goal.returns-then-words-place
-returns-then-words-place c = (cut _ _ _ (omega arith) c.loop-place-test.true (omega arith) c.loop-place.invariant.0, omega arith)
+pub returns-then-words-place-clause-err : goal.returns-then-words-place-clause-err
+returns-then-words-place-clause-err c = (cut _ _ _ (omega arith) c.loop-place-test.true (omega arith) c.loop-place.invariant.0, omega arith)
 
 pub loop-place-preserved : goal.loop-place-preserved
 loop-place-preserved c =
@@ -29,8 +30,8 @@ loop-place-preserved c =
     let f : p + (4 + kids_at ws p) ≤ length ws = omega arith in
     (found-more ws at k p b c.loop-place-test.true f i.0, omega arith, omega arith, length-set at k p ∙ i.3)
 
-pub returns : goal.returns
-returns c =
+pub returns-clause-ok : goal.returns-clause-ok
+returns-clause-ok c =
     let i = c.loop-place.invariant in
     let a = found_all _ _ _ c.loop-place-test.false i.0 in
-    (record { places = a.0; short = omega arith; whole = record { some = omega arith; ended = a.1 }; few = simp length-take (omega arith) }, omega arith)
+    (record { places = a.0; short = omega arith; whole = record { some = grind (arith, nat_tests); ended = a.1 }; few = simp length-take (omega arith) }, omega arith)

@@ -1,21 +1,18 @@
-use Rattle.std.proofs.Common.{refl, arith}
-use Rattle.rule.proofs.Counting.{zeros}
+use Rattle.std.proofs.Common.{replicate, refl, arith}
+use Rattle.rule.specs.declared.scopes.Mark.TheVariants.{Unmet}
+use Rattle.rule.proofs.Marking.{ends-length, unmet}
 use Rattle.rule.proofs.Judged.{judged, last-size, last-small}
-use Rattle.rule.proofs.Laid.{node-some, read-nodes}
 use Rattle.rule.proofs.scopes.check_scopes.Goals as goal
-
-pub overflow_sub-last : goal.overflow_sub-last
-overflow_sub-last c = omega (arith, node-some _ c.requires.read.whole, read-nodes _ _ c.requires.read)
 
 pub walk_scopes-requires : goal.walk_scopes-requires
 walk_scopes-requires c =
-    let e = last-size _ _ _ c.requires.read c.requires.treelike.1 in
-    let k = last-small _ _ _ c.requires.read c.requires.treelike.1 in
-    record {
-      read = (c.requires.read, omega (arith, node-some _ c.requires.read.whole, read-nodes _ _ c.requires.read));
-      treelike = (c.requires.treelike.0, c.requires.treelike.1);
-      room = (omega (arith, e), (omega (arith, e, k), refl));
-    }
+    let tree = c.args.tree in
+    let e = last-size _ _ _ _ tree.rule.read tree.sized c.root-root.ensures in
+    let k = last-small _ _ _ _ tree.rule.read tree.sized c.root-root.ensures in
+    record { inside = omega (arith, c.root-root.ensures); fits = omega (arith, e); few = omega (arith, e, k); room = refl }
 
-pub returns : goal.returns
-returns c = judged _ _ _ c.requires.read c.requires.treelike.1 _ _ _ refl (zeros 1024) c.walk_scopes.ensures
+pub returns-clause-ok : goal.returns-clause-ok
+returns-clause-ok c = (judged _ _ _ _ c.args.tree.rule.read c.args.tree.sized c.root-root.ensures _ _ _ (ends-length (replicate 1024 Unmet)) (unmet 1024) c.walk_scopes.ensures).0
+
+pub returns-clause-err : goal.returns-clause-err
+returns-clause-err c = (judged _ _ _ _ c.args.tree.rule.read c.args.tree.sized c.root-root.ensures _ _ _ (ends-length (replicate 1024 Unmet)) (unmet 1024) c.walk_scopes.ensures).1

@@ -3,10 +3,10 @@ use Rattle.std.proofs.lemmas.Bool.Decides.{nat_tests}
 use Rattle.rule.specs.Scopes.{compares}
 use Rattle.rule.proofs.scopes.is_comparison.Goals as goal
 
-pub returns-then-v-ge12 : goal.returns-then-v-ge12
+pub returns-then-node-eq-BINARY : goal.returns-then-node-eq-BINARY
 unfolding compares
-returns-then-v-ge12 c = grind (arith, nat_tests)
+returns-then-node-eq-BINARY c = grind (arith, nat_tests)
 
-pub returns-else-v-ge12 : goal.returns-else-v-ge12
+pub returns-else-node-eq-BINARY : goal.returns-else-node-eq-BINARY
 unfolding compares
-returns-else-v-ge12 c = grind (arith, nat_tests)
+returns-else-node-eq-BINARY c = grind (arith, nat_tests)

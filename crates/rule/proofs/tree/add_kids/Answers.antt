@@ -1,38 +1,38 @@
 use Rattle.std.proofs.Common.{◌≡◌, ◌<◌, length, get_or, refl, arith}
-use Rattle.rule.specs.Run.{kids_at, kid_at}
+use Rattle.rule.specs.Run.{kids_at}
 use Rattle.rule.specs.Tally.{high}
-use Rattle.rule.proofs.Laid.{read_fits}
-use Rattle.rule.proofs.Adding.{adding-none, adding-more, adding-all, adding-twice}
+use Rattle.rule.proofs.Adding.{adding-none, adding-all, kid-more, kid-twice, flagged}
 use Rattle.rule.proofs.tree.add_kids.Goals as goal
+use Rattle.rule.proofs.tree.add_kids.Goals.{then-kid-i-via-then-kid-i, then-kid-i-via-else-kid-i+then-seen-kid}
 
-pub bounds-rule-p : goal.bounds-rule-p
-bounds-rule-p c = omega (arith, read_fits _ _ c.requires.read.0 c.args.i c.requires.read.1)
+pub loop-kid-init : goal.loop-kid-init
+loop-kid-init c = adding-none _ _ _ _ _ (flagged _)
 
-pub loop-q-init : goal.loop-q-init
-loop-q-init c = adding-none _ _ _ _ _ c.requires.at_most_once.0
-
-pub bounds-rule-p-in-loop-q : goal.bounds-rule-p-in-loop-q
-bounds-rule-p-in-loop-q c = omega (arith, read_fits _ _ c.requires.read.0 c.args.i c.requires.read.1, c.loop-q-test.true)
-
-pub returns-then-kid-i : goal.returns-then-kid-i
-returns-then-kid-i c = (refl, high c.loop-q.q c.loop-q-test.true c.if-kid-i.true)
-
-pub returns-then-seen-kid-ne0 : goal.returns-then-seen-kid-ne0
-returns-then-seen-kid-ne0 c = (refl, adding-twice _ _ _ _ _ _ _ _ c.loop-q-test.true c.if-kid-i.false c.if-seen-kid-ne0.true c.loop-q.invariant)
-
-pub overflow_add-total : goal.overflow_add-total
-overflow_add-total c = omega (arith, c.loop-q.invariant.rest, c.requires.at_most_once.1)
-
-pub loop-q-preserved : goal.loop-q-preserved
-loop-q-preserved c =
+pub returns-then-kid-i-clause-err : goal.returns-then-kid-i-clause-err
+returns-then-kid-i-clause-err c =
     let ws = c.args.rule.words.now in
     let o = get_or c.args.rule.at.now c.args.i 0 in
-    let few = c.requires.read.0.few in
-    let b : kid_at ws o c.loop-q.q < length c.loop-q.seen = omega arith in
-    let m : kid_at ws o c.loop-q.q < length c.args.sizes.now = omega arith in
-    adding-more ws o c.args.i c.args.seen.now c.loop-q.seen c.args.sizes.now c.loop-q.total c.loop-q.q c.loop-q-test.true c.if-kid-i.false b m c.if-seen-kid-ne0.false c.loop-q.invariant
+    let q : c.loop-kid.kid-index < kids_at ws o = omega (arith, c.known_node.ensures.count, c.loop-kid-test.true) in
+    let e = c.known_node.ensures.each c.loop-kid.kid-index q in
+    elim c.then-kid-i.branch [
+      | then-kid-i-via-then-kid-i w ↦ (refl, high c.loop-kid.kid-index q (omega (arith, e, w.if-kid-i.true)))
+      | then-kid-i-via-else-kid-i+then-seen-kid w ↦
+          (refl, kid-twice ws o c.args.i _ c.loop-kid.seen _ _ c.loop-kid.kid-index _ e q (omega (arith, w.if-kid-i.false)) w.if-seen-kid.true c.loop-kid.invariant)
+    ]
 
-pub returns : goal.returns
-returns c =
-    let e : c.loop-q.q ≡ kids_at c.args.rule.words.now (get_or c.args.rule.at.now c.args.i 0) = omega (arith, c.loop-q-test.false, c.loop-q.auto.q-end) in
-    adding-all _ _ _ _ _ _ _ _ e c.loop-q.invariant
+pub loop-kid-preserved : goal.loop-kid-preserved
+loop-kid-preserved c =
+    let ws = c.args.rule.words.now in
+    let o = get_or c.args.rule.at.now c.args.i 0 in
+    let few = c.args.rule.read.few in
+    let q : c.loop-kid.kid-index < kids_at ws o = omega (arith, c.known_node.ensures.count, c.loop-kid-test.true) in
+    let e = c.known_node.ensures.each c.loop-kid.kid-index q in
+    let k = get_or c.known_node.result.kids.now c.loop-kid.kid-index 0 in
+    let b : k < length c.loop-kid.seen = omega arith in
+    let m : k < length c.args.sizes.now = omega arith in
+    kid-more ws o c.args.i _ c.loop-kid.seen _ _ c.loop-kid.kid-index k e q c.if-kid-i.false b m c.if-seen-kid.false c.loop-kid.invariant
+
+pub returns-clause-ok : goal.returns-clause-ok
+returns-clause-ok c =
+    let e : c.loop-kid.kid-index ≡ kids_at c.args.rule.words.now (get_or c.args.rule.at.now c.args.i 0) = omega (arith, c.known_node.ensures.count, c.loop-kid-test.false, c.loop-kid.auto.kid-index-end) in
+    adding-all _ _ _ _ _ _ _ _ e c.loop-kid.invariant

@@ -1,21 +1,39 @@
-use Rattle.std.proofs.Common.{◌≡◌, ◌≤◌, length, ◌∙◌, arith, length-take}
+use Rattle.std.proofs.Common.{◌≡◌, ℕ, ◌≤◌, List, length, Ok, Err, Result, refl, ◌∙◌, subst, arith, length-take}
+use Rattle.std.specs.Result.{MatchResult, IsErrAnd}
+use Rattle.rule.specs.declared.fault.Fault.{Fault}
+use Rattle.rule.specs.declared.nodes.Nodes.{Nodes}
+use Rattle.rule.specs.Intake.{Accepted}
 use Rattle.rule.proofs.Grounds.{accepted-read}
+use Rattle.sameness.specs.declared.compare.CompareFault.{CompareFault}
 use Rattle.sameness.proofs.Judging.{judged-front, tail-kept}
 use Rattle.sameness.proofs.compare.compare.Goals as goal
 
-pub judge_rules-same-requires : goal.judge_rules-same-requires
-judge_rules-same-requires c =
-    let a = c.in-Ok.ensures in
-    let b = c.in-Ok-intake.ensures in
-    record {
-      read = (accepted-read 6 _ _ _ (omega arith) a (omega arith), accepted-read 6 _ _ _ (omega arith) b (omega arith));
-      sound = (a.passes, (b.passes, simp length-take (omega arith)));
-    }
+-- what the intake says of a run whose fault would have been named
+intake-ok : (ws : List ℕ) (E : Fault → Type 0) (B : Fault → CompareFault → Type 0) (r : Result Nodes Fault) (m : Result Nodes CompareFault) (n : Nodes)
+    → MatchResult r (Accepted 6 ws) E → MatchResult r (λ x. m ≡ Ok x) (λ e. IsErrAnd m (B e)) → m ≡ Ok n → Accepted 6 ws n
+intake-ok ws E B (Ok x) m n a k e = let f : x ≡ n = cc in subst (Accepted 6 ws) f a
+intake-ok ws E B (Err x) m n a k e = absurd (subst (λ z. IsErrAnd z (B x)) e k)
+
+pub invariant_of-l : goal.invariant_of-l
+invariant_of-l c =
+    let a : Accepted 6 c.args.first.now c.in_ok-a.a = intake-ok _ _ _ _ _ _ c.intake.ensures c.map_err.ensures.cases c.in_ok-a.was in
+    record { read = rw c.places.ensures (accepted-read 6 _ _ _ (omega arith) a refl) }
+
+pub invariant_of-r : goal.invariant_of-r
+invariant_of-r c =
+    let b : Accepted 6 c.args.second.now c.in_ok-b.b = intake-ok _ _ _ _ _ _ c.intake-2.ensures c.map_err-2.ensures.cases c.in_ok-b.was in
+    record { read = rw c.places-2.ensures (accepted-read 6 _ _ _ (omega arith) b refl) }
+
+pub judge_rules-requires : goal.judge_rules-requires
+judge_rules-requires c =
+    let a : Accepted 6 c.args.first.now c.in_ok-a.a = intake-ok _ _ _ _ _ _ c.intake.ensures c.map_err.ensures.cases c.in_ok-a.was in
+    let b : Accepted 6 c.args.second.now c.in_ok-b.b = intake-ok _ _ _ _ _ _ c.intake-2.ensures c.map_err-2.ensures.cases c.in_ok-b.was in
+    record { first = a.passes; second = b.passes; room = simp length-take (omega arith) }
 
 pub returns : goal.returns
 returns c =
-    let a = c.in-Ok.ensures in
-    let b = c.in-Ok-intake.ensures in
-    let l : length c.judge_rules-same.new.t ≡ 2048 = c.judge_rules-same.auto.t ∙ (simp length-take (omega arith)) in
+    let a : Accepted 6 c.args.first.now c.in_ok-a.a = intake-ok _ _ _ _ _ _ c.intake.ensures c.map_err.ensures.cases c.in_ok-a.was in
+    let b : Accepted 6 c.args.second.now c.in_ok-b.b = intake-ok _ _ _ _ _ _ c.intake-2.ensures c.map_err-2.ensures.cases c.in_ok-b.was in
+    let l : length c.judge_rules.new.t ≡ 2048 = c.judge_rules.auto.t ∙ (simp length-take (omega arith)) in
     let h : 2048 ≤ length c.args.pairs.now = omega arith in
-    (a.passes, b.passes, h, judged-front _ _ _ _ l c.judge_rules-same.result c.judge_rules-same.ensures, tail-kept _ _ l h)
+    (a.passes, b.passes, h, judged-front _ _ _ _ l c.judge_rules.result c.judge_rules.ensures, tail-kept _ _ l h)

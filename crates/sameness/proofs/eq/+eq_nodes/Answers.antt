@@ -1,192 +1,124 @@
-use Rattle.std.proofs.Common.{◌≡◌, true, length, sym, refl, ap, ◌∙◌, subst, inl, inr, ⊎_elim, arith}
-use Rattle.trial.proofs.Restoring.{put_back}
-use Rattle.sameness.proofs.Overs.{going_more, going-fails, going-all, over-unequal, first-fails, first_holds, not-exchanged, few-operands, exchanged}
-use Rattle.sameness.specs.Walking.{KindsWalked, FirstFails}
-use Rattle.sameness.proofs.Asking.{operands, binding-low, local-low, ready_of, ready-again}
-use Rattle.sameness.proofs.Walks.{same-trees, from-same, kinds-unequal, kinds-other, kinds-fail, kinds-plain, kinds-by, kinds-bound, kinds-taken, kinds-local}
+use Rattle.std.proofs.Common.{rules, ◌≡◌, true, min, ◌⊎◌, length, get_or, sym, refl, ◌∙◌, subst, ap₂, inl, inr, ⊎_elim, arith, length-append}
+use Rattle.std.proofs.lemmas.Slice.Zip.{zip_turn, zip_end}
+use Rattle.rule.specs.Trees.{tree_at}
+use Rattle.sameness.proofs.Overs.{going_more, going-fails, going-all, over-unequal, first_holds, not-exchanged, few-operands, exchanged, both-then, both-same}
+use Rattle.sameness.specs.Walking.{Low, KindsWalked}
+use Rattle.sameness.proofs.Asking.{binding-low, local-low, nodes-named}
+use Rattle.sameness.proofs.Walks.{kinds-unequal, kinds-other, kinds-fail, kinds-plain, kinds-by, kinds-bound, kinds-taken, kinds-local}
 use Rattle.sameness.proofs.eq.+eq_nodes.Goals as goal
+use Rattle.sameness.proofs.eq.+eq_nodes.Goals.{eq_reversed-then-l-ne2-via-then-l-ne2, eq_reversed-then-l-ne2-via-else-l-ne2+then-r-ne2}
 
-pub eq_block-returns-then-eq_words : goal.eq_block-returns-then-eq_words
-eq_block-returns-then-eq_words t c =
-    kinds-by _ _ _ _ _ _ _ c.requires.excluded.0 c.requires.excluded.1.0 c.requires.excluded.1.1 (sym c.if-eq_words.ensures) c.over.ensures
-
-pub eq_block-returns-else-eq_words : goal.eq_block-returns-else-eq_words
-eq_block-returns-else-eq_words t c = kinds-other _ _ _ _ _ _ c.requires.excluded.0 c.eq_words.ensures c.if-eq_words.false
-
-pub eq_const_arg-returns-then-eq_words : goal.eq_const_arg-returns-then-eq_words
-eq_const_arg-returns-then-eq_words t c =
-    kinds-by _ _ _ _ _ _ _ c.requires.excluded.0 c.requires.excluded.1.0 c.requires.excluded.1.1 (sym c.if-eq_words.ensures) c.over.ensures
-
-pub eq_const_arg-returns-else-eq_words : goal.eq_const_arg-returns-else-eq_words
-eq_const_arg-returns-else-eq_words t c = kinds-other _ _ _ _ _ _ c.requires.excluded.0 c.eq_words.ensures c.if-eq_words.false
+pub both-returns-then-eq_node : goal.both-returns-then-eq_node
+both-returns-then-eq_node t c = both-then _ _ _ _ _ _ _ _ c.if-eq_node.ensures c.eq_node-then-eq_node.ensures
 
 pub eq_part-returns-then-eq_words : goal.eq_part-returns-then-eq_words
 eq_part-returns-then-eq_words t c =
-    kinds-by _ _ _ _ _ _ _ c.requires.excluded.0 c.requires.excluded.1.0 c.requires.excluded.1.1 (sym c.if-eq_words.ensures) c.over.ensures
+    kinds-by _ c.args.l.node _ c.args.r.node _ _ _ c.requires.not_binary c.requires.not_binding c.requires.not_path (sym c.if-eq_words.ensures) c.over.ensures
 
 pub eq_part-returns-else-eq_words : goal.eq_part-returns-else-eq_words
-eq_part-returns-else-eq_words t c = kinds-other _ _ _ _ _ _ c.requires.excluded.0 c.eq_words.ensures c.if-eq_words.false
-
-pub eq_stmt-returns-then-eq_words : goal.eq_stmt-returns-then-eq_words
-eq_stmt-returns-then-eq_words t c =
-    kinds-by _ _ _ _ _ _ _ c.requires.excluded.0 c.requires.excluded.1.0 c.requires.excluded.1.1 (sym c.if-eq_words.ensures) c.over.ensures
-
-pub eq_stmt-returns-else-eq_words : goal.eq_stmt-returns-else-eq_words
-eq_stmt-returns-else-eq_words t c = kinds-other _ _ _ _ _ _ c.requires.excluded.0 c.eq_words.ensures c.if-eq_words.false
-
-pub eq_ty-returns-then-eq_words : goal.eq_ty-returns-then-eq_words
-eq_ty-returns-then-eq_words t c =
-    kinds-by _ _ _ _ _ _ _ c.requires.excluded.0 c.requires.excluded.1.0 c.requires.excluded.1.1 (sym c.if-eq_words.ensures) c.over.ensures
-
-pub eq_ty-returns-else-eq_words : goal.eq_ty-returns-else-eq_words
-eq_ty-returns-else-eq_words t c = kinds-other _ _ _ _ _ _ c.requires.excluded.0 c.eq_words.ensures c.if-eq_words.false
-
-pub eq_expr-returns-then-eq_words : goal.eq_expr-returns-then-eq_words
-eq_expr-returns-then-eq_words t c =
-    kinds-by _ _ _ _ _ _ _ c.if-l-eq14.false c.requires.excluded.0 c.requires.excluded.1 (sym c.if-eq_words.ensures) c.over.ensures
-
-pub eq_expr-returns-else-eq_words : goal.eq_expr-returns-else-eq_words
-eq_expr-returns-else-eq_words t c = kinds-other _ _ _ _ _ _ c.if-l-eq14.false c.eq_words.ensures c.if-eq_words.false
+eq_part-returns-else-eq_words t c = kinds-other _ c.args.l.node _ c.args.r.node _ _ c.requires.not_binary c.eq_words.ensures c.if-eq_words.false
 
 pub eq_pat-returns-then-not-eq_words : goal.eq_pat-returns-then-not-eq_words
-eq_pat-returns-then-not-eq_words t c = kinds-unequal _ _ _ _ _ c.requires.excluded.0 (sym c.if-not-eq_words.ensures)
+eq_pat-returns-then-not-eq_words t c = kinds-unequal _ c.args.l.node _ c.args.r.node _ c.requires.not_binary (sym c.if-not-eq_words.ensures)
 
 pub eq_pat-returns-then-not-over : goal.eq_pat-returns-then-not-over
-eq_pat-returns-then-not-over t c = kinds-fail _ _ _ _ _ _ c.requires.excluded.0 (sym c.if-not-eq_words.ensures) c.if-not-over.ensures
+eq_pat-returns-then-not-over t c = kinds-fail _ c.args.l.node _ c.args.r.node _ _ c.requires.not_binary (sym c.if-not-eq_words.ensures) c.if-not-over.ensures
 
-pub eq_pat-returns-then-l-ne41 : goal.eq_pat-returns-then-l-ne41
-eq_pat-returns-then-l-ne41 t c =
-    kinds-plain _ _ _ _ _ _ c.requires.excluded.0 c.if-l-ne41.true (λ e. c.requires.excluded.1 e.0) (sym c.if-not-eq_words.ensures) c.if-not-over.ensures
+pub eq_pat-returns-then-l-ne-BINDING : goal.eq_pat-returns-then-l-ne-BINDING
+eq_pat-returns-then-l-ne-BINDING t c =
+    kinds-plain _ c.args.l.node _ c.args.r.node _ _ c.requires.not_binary c.if-l-ne-BINDING.true (λ e. c.requires.not_path e.0) (sym c.if-not-eq_words.ensures) c.if-not-over.ensures
 
 pub eq_pat-returns-then-not-unpaired : goal.eq_pat-returns-then-not-unpaired
 eq_pat-returns-then-not-unpaired t c =
     let d = sym c.if-not-eq_words.ensures in
-    let k = binding-low _ _ _ _ _ _ _ _ _ c.requires.ready c.if-l-ne41.false d in
-    kinds-taken _ _ _ _ _ _ c.if-l-ne41.false d (c.over.auto.t ∙ c.requires.ready.room) k.0 k.1 (sym c.if-not-unpaired.ensures) c.if-not-over.ensures
+    let k = binding-low _ _ _ _ _ _ c.args.l.held c.args.r.held d c.if-l-ne-BINDING.false in
+    kinds-taken _ c.args.l.node _ c.args.r.node _ _ c.if-l-ne-BINDING.false d (c.over.auto.t ∙ c.requires.room) k.0 k.1 (sym c.if-not-unpaired.ensures) c.if-not-over.ensures
 
 pub eq_pat-returns : goal.eq_pat-returns
 eq_pat-returns t c =
     let d = sym c.if-not-eq_words.ensures in
-    let k = binding-low c.args.t.now c.args.a.words.now c.args.a.at.now c.args.b.words.now c.args.b.at.now c.args.i c.args.j c.args.l c.args.r c.requires.ready c.if-l-ne41.false d in
-    subst (λ z. KindsWalked c.args.a.words.now c.args.l c.args.b.words.now c.args.r c.args.t.now z true) (sym c.record.ensures)
-    (kinds-bound _ _ _ _ _ _ c.if-l-ne41.false d (c.over.auto.t ∙ c.requires.ready.room) k.0 k.1 (sym c.if-not-unpaired.ensures) c.if-not-over.ensures)
+    let k = binding-low _ _ _ _ _ _ c.args.l.held c.args.r.held d c.if-l-ne-BINDING.false in
+    subst (λ z. KindsWalked c.args.l.branch.words.now c.args.l.node c.args.r.branch.words.now c.args.r.node c.args.t.now z true) (sym c.record.ensures)
+    (kinds-bound _ c.args.l.node _ c.args.r.node _ _ c.if-l-ne-BINDING.false d (c.over.auto.t ∙ c.requires.room) k.0 k.1 (sym c.if-not-unpaired.ensures) c.if-not-over.ensures)
 
 pub eq_qpath-returns-then-not-eq_words : goal.eq_qpath-returns-then-not-eq_words
-eq_qpath-returns-then-not-eq_words t c = kinds-unequal _ _ _ _ _ c.requires.excluded.0 (sym c.if-not-eq_words.ensures)
+eq_qpath-returns-then-not-eq_words t c = kinds-unequal _ c.args.l.node _ c.args.r.node _ c.requires.not_binary (sym c.if-not-eq_words.ensures)
 
 pub eq_qpath-returns-then-not-over : goal.eq_qpath-returns-then-not-over
-eq_qpath-returns-then-not-over t c = kinds-fail _ _ _ _ _ _ c.requires.excluded.0 (sym c.if-not-eq_words.ensures) c.if-not-over.ensures
+eq_qpath-returns-then-not-over t c = kinds-fail _ c.args.l.node _ c.args.r.node _ _ c.requires.not_binary (sym c.if-not-eq_words.ensures) c.if-not-over.ensures
 
 pub eq_qpath-eq_locals-requires : goal.eq_qpath-eq_locals-requires
 eq_qpath-eq_locals-requires t c =
-    let k = local-low c.args.t.now c.args.a.words.now c.args.a.at.now c.args.b.words.now c.args.b.at.now c.args.i c.args.j c.args.l c.args.r c.requires.ready c.if-l-eq70.true c.if-l-eq0.true (sym c.if-not-eq_words.ensures) in
-    (c.over.auto.t ∙ c.requires.ready.room, (k.0, k.1))
+    let k = local-low _ _ _ _ _ _ c.args.l.held c.args.r.held (sym c.if-not-eq_words.ensures) c.if-l-eq-PATH.true c.if-l-eq0.true in
+    record { room = c.over.auto.t ∙ c.requires.room; first = k.0; second = k.1 }
 
 pub eq_qpath-returns-then-l-eq0 : goal.eq_qpath-returns-then-l-eq0
 eq_qpath-returns-then-l-eq0 t c =
-    kinds-local _ _ _ _ _ _ _ c.if-l-eq70.true c.if-l-eq0.true (sym c.if-not-eq_words.ensures) c.eq_locals.ensures c.if-not-over.ensures
+    kinds-local _ c.args.l.node _ c.args.r.node _ _ _ c.if-l-eq-PATH.true c.if-l-eq0.true (sym c.if-not-eq_words.ensures) c.eq_locals.ensures c.if-not-over.ensures
 
 pub eq_qpath-returns : goal.eq_qpath-returns
 eq_qpath-returns t c =
-    kinds-plain _ _ _ _ _ _ c.requires.excluded.0 c.requires.excluded.1 (λ e. ⊎_elim (λ k. k.1 e.1) (λ k. k e.0) c.else-l-eq70.either) (sym c.if-not-eq_words.ensures) c.if-not-over.ensures
+    kinds-plain _ c.args.l.node _ c.args.r.node _ _ c.requires.not_binary c.requires.not_binding (λ e. ⊎_elim (λ k. k.1 e.1) (λ k. k e.0) c.else-l-eq-PATH.either) (sym c.if-not-eq_words.ensures) c.if-not-over.ensures
 
 pub eq_binary-returns-then-over : goal.eq_binary-returns-then-over
 eq_binary-returns-then-over t c =
-    subst (λ z. KindsWalked c.args.a.words.now c.args.l c.args.b.words.now c.args.r c.args.t.now z true) (sym (c.drop-trial.ensures.keeps refl))
-    (first_holds _ _ _ _ _ _ c.requires.binary (sym c.if-not-eq_words.ensures) c.if-over.ensures)
+    subst (λ z. KindsWalked c.args.l.branch.words.now c.args.l.node c.args.r.branch.words.now c.args.r.node c.args.t.now z true) (sym (c.drop-trial.ensures.keeps refl))
+    (first_holds _ c.args.l.node _ c.args.r.node _ _ c.requires.binary (sym c.if-not-eq_words.ensures) c.if-over.ensures)
 
 pub eq_reversed-returns-then-not-is_reversed : goal.eq_reversed-returns-then-not-is_reversed
-eq_reversed-returns-then-not-is_reversed t c = not-exchanged _ _ _ _ _ c.requires.binary.0 (sym c.if-not-is_reversed.ensures) c.requires.binary.1
+eq_reversed-returns-then-not-is_reversed t c = not-exchanged _ c.args.l.node _ c.args.r.node _ c.requires.binary (sym c.if-not-is_reversed.ensures) c.requires.direct_fails
 
 pub eq_reversed-returns-then-l-ne2 : goal.eq_reversed-returns-then-l-ne2
-eq_reversed-returns-then-l-ne2 t c = few-operands _ _ _ _ _ c.requires.binary.0 (inl c.if-l-ne2.true) c.requires.binary.1
-
-pub eq_reversed-returns-then-r-ne2 : goal.eq_reversed-returns-then-r-ne2
-eq_reversed-returns-then-r-ne2 t c = few-operands _ _ _ _ _ c.requires.binary.0 (inr c.if-r-ne2.true) c.requires.binary.1
-
-pub eq_reversed-both-requires : goal.eq_reversed-both-requires
-eq_reversed-both-requires t c =
-    let k = operands c.args.t.now c.args.a.words.now c.args.a.at.now c.args.b.words.now c.args.b.at.now c.args.i c.args.j c.args.l c.args.r c.requires.ready c.if-l-ne2.false c.if-r-ne2.false in
-    (omega (arith, c.decreases, k.2, k.3), (k.0, k.1))
+eq_reversed-returns-then-l-ne2 t c =
+    let n : (length c.args.l.node.kids.now ≡ 2 → ⊥) ⊎ (length c.args.r.node.kids.now ≡ 2 → ⊥) =
+    elim c.then-l-ne2.branch [ eq_reversed-then-l-ne2-via-then-l-ne2 w ↦ inl w.if-l-ne2.true | eq_reversed-then-l-ne2-via-else-l-ne2+then-r-ne2 w ↦ inr w.if-r-ne2.true ] in
+    few-operands _ c.args.l.node _ c.args.r.node _ c.requires.binary n c.requires.direct_fails
 
 pub eq_reversed-returns : goal.eq_reversed-returns
 eq_reversed-returns t c =
-    exchanged _ _ _ _ _ _ _ c.requires.binary.0 (sym c.if-not-is_reversed.ensures) c.if-l-ne2.false c.if-r-ne2.false c.requires.binary.1 c.both.ensures
+    exchanged _ c.args.l.node _ c.args.r.node _ _ _ c.requires.binary (sym c.if-not-is_reversed.ensures) c.if-l-ne2.false c.if-r-ne2.false c.requires.direct_fails
+    (both-same _ _ _ _ _ _ _ _ _ _ _ (ap₂ tree_at c.child.ensures.words c.child.ensures.number) (ap₂ tree_at c.child-3.ensures.words c.child-3.ensures.number)
+    (ap₂ tree_at c.child-2.ensures.words c.child-2.ensures.number) (ap₂ tree_at c.child-4.ensures.words c.child-4.ensures.number) c.both.ensures)
 
 pub over-returns-then-l-r : goal.over-returns-then-l-r
-over-returns-then-l-r t c = over-unequal c.args.a.words.now c.args.l c.args.b.words.now c.args.r _ c.if-l-r.true
+over-returns-then-l-r t c = over-unequal c.args.l.branch.words.now c.args.l.node c.args.r.branch.words.now c.args.r.node _ c.if-l-r.true
+
+pub over-invariant_of-first : goal.over-invariant_of-first
+over-invariant_of-first t c =
+    let l = c.args.l in
+    let z = zip_turn c.args.l.node.kids.now c.args.r.node.kids.now c.loop-x.yielded c.into_iter-x-iterator.result c.loop-x.x-iterator c.next.new.self c.next.result (search rules) (search rules) c.loop-x.yielded_by (c.in-Some.x, c.in-Some.y) c.in-Some.is c.next.ensures.steps in
+    let e : c.in-Some.x.now ≡ get_or l.node.kids.now (length c.loop-x.yielded) 0 = z.2 0 in
+    record {
+      read = l.branch.read;
+      within = omega (arith, e, l.held.below _ z.0, l.branch.within);
+      treelike = l.branch.treelike;
+      low = subst (λ n. Low (tree_at l.branch.words.now n)) (sym e) (l.held.kids_low _ z.0);
+    }
+
+pub over-invariant_of-second : goal.over-invariant_of-second
+over-invariant_of-second t c =
+    let r = c.args.r in
+    let z = zip_turn c.args.l.node.kids.now c.args.r.node.kids.now c.loop-x.yielded c.into_iter-x-iterator.result c.loop-x.x-iterator c.next.new.self c.next.result (search rules) (search rules) c.loop-x.yielded_by (c.in-Some.x, c.in-Some.y) c.in-Some.is c.next.ensures.steps in
+    let e : c.in-Some.y.now ≡ get_or r.node.kids.now (length c.loop-x.yielded) 0 = z.3 0 in
+    record {
+      read = r.branch.read;
+      within = omega (arith, e, r.held.below _ z.1, r.branch.within);
+      treelike = r.branch.treelike;
+      low = subst (λ n. Low (tree_at r.branch.words.now n)) (sym e) (r.held.kids_low _ z.1);
+    }
 
 pub over-returns-then-not-eq_node : goal.over-returns-then-not-eq_node
 over-returns-then-not-eq_node t c =
-    going-fails _ _ _ _ _ _ _ _ c.loop-q-test.true (omega (arith, c.if-l-r.false, c.loop-q-test.true)) c.if-not-eq_node.ensures c.loop-q.invariant
+    let z = zip_turn c.args.l.node.kids.now c.args.r.node.kids.now c.loop-x.yielded c.into_iter-x-iterator.result c.loop-x.x-iterator c.next.new.self c.next.result (search rules) (search rules) c.loop-x.yielded_by (c.in-Some.x, c.in-Some.y) c.in-Some.is c.next.ensures.steps in
+    going-fails _ c.args.l.node _ c.args.r.node _ _ _ _ z.0 z.1 (nodes-named _ _ _ _ _ _ _ _ _ (z.2 0) (z.3 0) c.if-not-eq_node.ensures) c.loop-x.invariant
 
-pub over-loop-q-preserved : goal.over-loop-q-preserved
-over-loop-q-preserved t c =
-    going_more _ _ _ _ _ _ _ _ c.loop-q-test.true (omega (arith, c.if-l-r.false, c.loop-q-test.true)) c.if-not-eq_node.ensures c.loop-q.invariant
+pub over-loop-x-preserved : goal.over-loop-x-preserved
+over-loop-x-preserved t c =
+    let z = zip_turn c.args.l.node.kids.now c.args.r.node.kids.now c.loop-x.yielded c.into_iter-x-iterator.result c.loop-x.x-iterator c.next.new.self c.next.result (search rules) (search rules) c.loop-x.yielded_by (c.in-Some.x, c.in-Some.y) c.in-Some.is c.next.ensures.steps in
+    rw length-append (going_more _ c.args.l.node _ c.args.r.node _ _ _ _ z.0 z.1 (nodes-named _ _ _ _ _ _ _ _ _ (z.2 0) (z.3 0) c.if-not-eq_node.ensures) c.loop-x.invariant)
 
 pub over-returns : goal.over-returns
 over-returns t c =
-    let e : c.loop-q.q ≡ c.args.l.kids = omega (arith, c.loop-q-test.false, c.loop-q.auto.q-end) in
-    going-all _ _ _ _ _ _ _ e (omega (arith, e, c.if-l-r.false)) c.loop-q.invariant
-
-pub eq_node-eq_expr-requires : goal.eq_node-eq_expr-requires
-eq_node-eq_expr-requires t c = (omega (arith, c.decreases), (ready_of _ _ _ _ _ _ _ _ _ c.requires c.reduce_exprkind-l.ensures.held c.reduce_exprkind-r.ensures.held, ((λ e. omega arith), (λ e. omega arith))))
-
-pub eq_node-eq_pat-requires : goal.eq_node-eq_pat-requires
-eq_node-eq_pat-requires t c = (omega (arith, c.decreases), (ready_of _ _ _ _ _ _ _ _ _ c.requires c.reduce_exprkind-l.ensures.held c.reduce_exprkind-r.ensures.held, ((λ e. omega arith), (λ e. omega arith))))
-
-pub eq_node-eq_ty-requires : goal.eq_node-eq_ty-requires
-eq_node-eq_ty-requires t c = (omega (arith, c.decreases), (ready_of _ _ _ _ _ _ _ _ _ c.requires c.reduce_exprkind-l.ensures.held c.reduce_exprkind-r.ensures.held, ((λ e. omega arith), ((λ e. omega arith), (λ e. omega arith)))))
-
-pub eq_node-eq_qpath-requires : goal.eq_node-eq_qpath-requires
-eq_node-eq_qpath-requires t c = (omega (arith, c.decreases), (ready_of _ _ _ _ _ _ _ _ _ c.requires c.reduce_exprkind-l.ensures.held c.reduce_exprkind-r.ensures.held, ((λ e. omega arith), (λ e. omega arith))))
-
-pub eq_node-eq_const_arg-requires : goal.eq_node-eq_const_arg-requires
-eq_node-eq_const_arg-requires t c = (omega (arith, c.decreases), (ready_of _ _ _ _ _ _ _ _ _ c.requires c.reduce_exprkind-l.ensures.held c.reduce_exprkind-r.ensures.held, ((λ e. omega arith), ((λ e. omega arith), (λ e. omega arith)))))
-
-pub eq_node-eq_block-requires : goal.eq_node-eq_block-requires
-eq_node-eq_block-requires t c = (omega (arith, c.decreases), (ready_of _ _ _ _ _ _ _ _ _ c.requires c.reduce_exprkind-l.ensures.held c.reduce_exprkind-r.ensures.held, ((λ e. omega arith), ((λ e. omega arith), (λ e. omega arith)))))
-
-pub eq_node-eq_stmt-requires : goal.eq_node-eq_stmt-requires
-eq_node-eq_stmt-requires t c = (omega (arith, c.decreases), (ready_of _ _ _ _ _ _ _ _ _ c.requires c.reduce_exprkind-l.ensures.held c.reduce_exprkind-r.ensures.held, ((λ e. omega arith), ((λ e. omega arith), (λ e. omega arith)))))
-
-pub eq_node-returns-in-10-to-36 : goal.eq_node-returns-in-10-to-36
-eq_node-returns-in-10-to-36 t c = same-trees _ _ _ _ _ _ _ c.reduce_exprkind-l.ensures.tree c.reduce_exprkind-r.ensures.tree c.eq_expr.ensures
-
-pub eq_node-returns-in-40-to-50 : goal.eq_node-returns-in-40-to-50
-eq_node-returns-in-40-to-50 t c = same-trees _ _ _ _ _ _ _ c.reduce_exprkind-l.ensures.tree c.reduce_exprkind-r.ensures.tree c.eq_pat.ensures
-
-pub eq_node-returns-in-60-to-67 : goal.eq_node-returns-in-60-to-67
-eq_node-returns-in-60-to-67 t c = same-trees _ _ _ _ _ _ _ c.reduce_exprkind-l.ensures.tree c.reduce_exprkind-r.ensures.tree c.eq_ty.ensures
-
-pub eq_node-returns-in-70-to-71 : goal.eq_node-returns-in-70-to-71
-eq_node-returns-in-70-to-71 t c = same-trees _ _ _ _ _ _ _ c.reduce_exprkind-l.ensures.tree c.reduce_exprkind-r.ensures.tree c.eq_qpath.ensures
-
-pub eq_node-returns-in-80-to-84 : goal.eq_node-returns-in-80-to-84
-eq_node-returns-in-80-to-84 t c = same-trees _ _ _ _ _ _ _ c.reduce_exprkind-l.ensures.tree c.reduce_exprkind-r.ensures.tree c.eq_const_arg.ensures
-
-pub eq_node-returns-in-94 : goal.eq_node-returns-in-94
-eq_node-returns-in-94 t c = same-trees _ _ _ _ _ _ _ c.reduce_exprkind-l.ensures.tree c.reduce_exprkind-r.ensures.tree c.eq_block.ensures
-
-pub eq_node-returns-in-95-to-97 : goal.eq_node-returns-in-95-to-97
-eq_node-returns-in-95-to-97 t c = same-trees _ _ _ _ _ _ _ c.reduce_exprkind-l.ensures.tree c.reduce_exprkind-r.ensures.tree c.eq_stmt.ensures
-
-pub eq_node-returns-in_default : goal.eq_node-returns-in_default
-eq_node-returns-in_default t c = same-trees _ _ _ _ _ _ _ c.reduce_exprkind-l.ensures.tree c.reduce_exprkind-r.ensures.tree c.eq_part.ensures
-
-pub eq_binary-eq_reversed-requires-2 : goal.eq_binary-eq_reversed-requires-2
-eq_binary-eq_reversed-requires-2 t c =
-    let k : c.drop-trial-2.new.self.0 ≡ c.args.t.now =
-    put_back c.of-before.result.bits c.args.t.now c.over.new.t c.drop-trial-2.new.self.0 c.of-before.ensures c.over.ensures.grows (c.drop-trial-2.ensures.restores refl) in (
-      omega (arith, c.decreases),
-      (
-        ready-again c.args.t.now c.args.a.words.now c.args.a.at.now c.args.b.words.now c.args.b.at.now c.args.i c.args.j c.args.l c.args.r c.requires.ready c.drop-trial-2.new.self.0 (ap length k),
-        (c.requires.binary, subst (λ z. FirstFails c.args.a.words.now c.args.l c.args.b.words.now c.args.r z) (sym k) (first-fails c.args.a.words.now c.args.l c.args.b.words.now c.args.r c.args.t.now c.over.new.t (sym c.if-not-eq_words.ensures) c.if-over.ensures)),
-      ),
-    )
-
-pub eq_binary-returns : goal.eq_binary-returns
-eq_binary-returns t c =
-    let k : c.drop-trial-2.new.self.0 ≡ c.args.t.now =
-    put_back c.of-before.result.bits c.args.t.now c.over.new.t c.drop-trial-2.new.self.0 c.of-before.ensures c.over.ensures.grows (c.drop-trial-2.ensures.restores refl) in
-    from-same _ _ _ _ _ k c.eq_reversed-2.ensures
+    let e : length c.loop-x.yielded ≡ min (length c.args.l.node.kids.now) (length c.args.r.node.kids.now) =
+    zip_end c.args.l.node.kids.now c.args.r.node.kids.now c.loop-x.yielded c.into_iter-x-iterator.result c.loop-x.x-iterator c.next.new.self c.next.result (search rules) (search rules) c.loop-x.yielded_by c.in-None.is c.next.ensures.steps in
+    going-all _ c.args.l.node _ c.args.r.node _ _ _ (omega (arith, e, c.if-l-r.false)) (omega (arith, e, c.if-l-r.false)) c.loop-x.invariant

@@ -3,10 +3,10 @@ use Rattle.std.proofs.lemmas.Bool.Decides.{nat_tests}
 use Rattle.sameness.specs.Sameness.{bare_v}
 use Rattle.sameness.proofs.words.bare_v.Goals as goal
 
-pub returns-then-code-eq63 : goal.returns-then-code-eq63
+pub returns-in-41 : goal.returns-in-41
 unfolding bare_v
-returns-then-code-eq63 c = grind (arith, nat_tests)
+returns-in-41 c = grind (arith, nat_tests)
 
-pub returns-else-code-eq63 : goal.returns-else-code-eq63
+pub returns-in_default : goal.returns-in_default
 unfolding bare_v
-returns-else-code-eq63 c = grind (arith, nat_tests)
+returns-in_default c = grind (arith, nat_tests)

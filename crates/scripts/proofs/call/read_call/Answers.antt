@@ -10,5 +10,5 @@ returns-in_err-verb c =
 
 pub returns : goal.returns
 returns c =
-    then-reads (WordTo verb_word c.args.text.now) (λ q t. AfterVerb c.args.limit q.0 q.1 t) c.args.line told
+    then-reads (WordTo verb_word c.args.text.now) (λ q t. AfterVerb c.args.limit q.0 q.1 t) c.args.line.number told
     (c.in_ok-verb.verb, c.in_ok-verb.rest.now) c.after_verb.result c.in_ok-verb.ensures c.after_verb.ensures

@@ -11,4 +11,4 @@ returns-in_err-rest c =
     (passed _ _ _ _ (hasher-unlabelled c.args.text.now _ _ c.in-Some.ensures) c.in_err-rest.ensures)
 
 pub returns : goal.returns
-returns c = hasher-reads c.args.line c.args.text.now c.in_ok-rest.rest.now c.read_hasher_name.result c.in_ok-rest.ensures c.read_hasher_name.ensures
+returns c = hasher-reads c.args.line.number c.args.text.now c.in_ok-rest.rest.now c.read_hasher_name.result c.in_ok-rest.ensures c.read_hasher_name.ensures

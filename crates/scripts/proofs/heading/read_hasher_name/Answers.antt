@@ -1,11 +1,6 @@
 use Rattle.scripts.proofs.Soles.{handed, passed}
-use Rattle.scripts.proofs.Headed.{named-sole, named-missing, named_more}
+use Rattle.scripts.proofs.Headed.{named-sole, named_more}
 use Rattle.scripts.proofs.heading.read_hasher_name.Goals as goal
-
-pub returns-in_err-hasher : goal.returns-in_err-hasher
-returns-in_err-hasher c =
-    handed _ _ _ c.from_residual.result c.in_err-hasher.field-0.0 c.from_residual.ensures.1
-    (passed _ _ _ _ (named-missing c.args.text.now) c.in_err-hasher.ensures)
 
 pub returns-in_err-read_end : goal.returns-in_err-read_end
 returns-in_err-read_end c =

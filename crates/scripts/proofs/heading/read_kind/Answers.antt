@@ -11,4 +11,4 @@ returns-in_err-rest c =
 
 pub returns : goal.returns
 returns c =
-    then-reads (LabelTo Catalogue c.args.text.now) (WordTo kind_word) c.args.line _ c.in_ok-rest.rest.now c.read_kind_word.result c.in_ok-rest.ensures c.read_kind_word.ensures
+    then-reads (LabelTo Catalogue c.args.text.now) (WordTo kind_word) c.args.line.number _ c.in_ok-rest.rest.now c.read_named.result c.in_ok-rest.ensures c.read_named.ensures

@@ -10,4 +10,4 @@ returns-in_err-rest c =
 
 pub returns : goal.returns
 returns c =
-    then-reads (LabelTo c.args.label c.args.text.now) NumberTo c.args.line _ c.in_ok-rest.rest.now c.read_number.result c.in_ok-rest.ensures c.read_number.ensures
+    then-reads (LabelTo c.args.label c.args.text.now) NumberTo c.args.line.number _ c.in_ok-rest.rest.now c.read_number.result c.in_ok-rest.ensures c.read_number.ensures

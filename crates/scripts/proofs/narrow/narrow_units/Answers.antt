@@ -1,14 +1,15 @@
-use Rattle.std.proofs.Common.{[], ◌∷◌, ◌++◌, get_or, is_ok, sym, ap, ◌∙◌}
-use Rattle.std.proofs.ResultArms.{chosen}
-use Rattle.std.proofs.lemmas.List.{take_all, take_more}
+use Rattle.std.proofs.Common.{◌<◌, of_calls, rules, arith}
+use Rattle.std.proofs.lemmas.Iterator.{YieldsList-from_slice}
+use Rattle.std.proofs.lemmas.Iterator.Adapters.{serves_from_places}
+use Rattle.std.proofs.lemmas.List.{get_or_default}
 use Rattle.scripts.proofs.narrow.narrow_units.Goals as goal
 
-pub loop-unit-preserved : goal.loop-unit-preserved
-loop-unit-preserved c =
-    let units = c.args.units.now in
-    let i = c.loop-unit.unit-index in
-    chosen _ _ _ _ c.push.ensures.items (ap is_ok c.in_ok-push.was)
-    ∙ ap (λ l. l ++ (get_or units i 0 ∷ [])) c.loop-unit.invariant ∙ sym (take_more units i 0 c.loop-unit-test.true)
-
-pub returns : goal.returns
-returns c = c.loop-unit.invariant ∙ take_all c.loop-unit.unit-index c.args.units.now c.loop-unit-test.false
+pub collect-requires-clause-can : goal.collect-requires-clause-can
+collect-requires-clause-can c =
+    let units = c.args.units.now in (
+      tt,
+      serves_from_places (YieldsList-from_slice units cc) (λ x q k. search (rules, of_calls)) (λ x k within is.
+          let low = c.requires k within in
+          let fits : x.now < 256 = omega (arith, low, is, get_or_default units k x.now 0 within) in
+          search rules),
+    )

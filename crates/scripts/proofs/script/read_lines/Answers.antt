@@ -1,48 +1,79 @@
-use Rattle.std.proofs.Common.{◌≡◌, ◌+◌, false, ◌⊎◌, ◌∷◌, is_ok, Some, None, vec_items, sym, ap, ◌∙◌, subst, arith}
+use Rattle.std.proofs.Common.{◌≡◌, ◌+◌, false, ◌⊎◌, [], ◌∷◌, is_ok, rules, Some, None, vec_items, sym, ap, ◌∙◌, subst, inl, inr}
+use Rattle.std.specs.Iterator.Adapters.{enumerate_source, enumerate_count}
 use Rattle.std.specs.Str.Iter.{split_text, split_has_more, split_pattern}
 use Rattle.std.proofs.ResultArms.{chosen}
 use Rattle.tables.specs.Lines.{content, skipped}
-use Rattle.tables.proofs.Rows.{left_lines, step_line}
+use Rattle.tables.specs.Rules.{lines}
+use Rattle.tables.proofs.Mapped.{given-error}
+use Rattle.tables.proofs.Rows.{AtFeeds, left_lines, next_row, no_row, rows_left}
 use Rattle.scripts.specs.Calls.{CallAs, told, told_all}
 use Rattle.scripts.specs.Headings.{HeadingAs}
 use Rattle.scripts.specs.Readings.{line_of, NoneIs, Sole}
-use Rattle.scripts.specs.declared.fault.ScriptFault.TheVariants.{Memory}
-use Rattle.scripts.proofs.Rows.{Sofar, again-told, call-stops, count_fits, heading-line, heading-stops, lines-handed, skip-line}
+use Rattle.scripts.specs.Scripts.{limit_of}
+use Rattle.scripts.specs.declared.fault.ScriptFault.TheVariants.{Memory, NoHeading}
+use Rattle.scripts.proofs.Rows.{Sofar, again-told, all_read, call-stops, heading-line, heading-stops, lines-handed, none_read, none_yet, skip-line}
 use Rattle.scripts.proofs.script.read_lines.Goals as goal
-use Rattle.scripts.proofs.script.read_lines.Goals.{In-Some, Else-is_skipped, In-None-headed, In-Some-headed}
+use Rattle.scripts.proofs.script.read_lines.Goals.{In-Some, In-None, Else-is_skipped, In-None-headed, In-Some-headed}
 
 -- the invariant where the next line is in hand
-at_row : (c : In-Some) → Sofar c.args.text.now (c.in-Some.row.now ∷ left_lines (split_has_more c.next.new.self) (split_text c.next.new.self)) c.loop-row.line c.loop-row.headed (told_all (vec_items c.loop-row.calls))
+at_row : (c : In-Some) → Sofar c.args.text.now (c.in-Some.row.now ∷ rows_left c.next.new.self) c.in-Some.i c.loop-i.headed (told_all (vec_items c.loop-i.calls))
 at_row c =
-    let told = c.in-Some.ensures.steps in
-    subst (λ ls. Sofar c.args.text.now ls c.loop-row.line c.loop-row.headed (told_all (vec_items c.loop-row.calls)))
-    (step_line (split_pattern c.loop-row.row-iterator) _ (split_text c.loop-row.row-iterator) c.in-Some.row.now _ _ c.loop-row.invariant.2 told.0 told.1.1) c.loop-row.invariant.3
+    let (_, more, place, _) = next_row c.loop-i.i-iterator c.next.new.self c.in-Some.i c.in-Some.row c.loop-i.invariant.2 c.in-Some.ensures.steps in
+    subst (λ n. Sofar c.args.text.now (c.in-Some.row.now ∷ rows_left c.next.new.self) n c.loop-i.headed (told_all (vec_items c.loop-i.calls))) place
+    (subst (λ ls. Sofar c.args.text.now ls (enumerate_count c.loop-i.i-iterator) c.loop-i.headed (told_all (vec_items c.loop-i.calls))) more c.loop-i.invariant.3)
 
-same-mark : (c : In-Some) → split_pattern c.next.new.self ≡ 10
-same-mark c = c.in-Some.ensures.steps.1.0 ∙ c.loop-row.invariant.2
+feeds : (c : In-Some) → AtFeeds c.next.new.self
+feeds c = (next_row c.loop-i.i-iterator c.next.new.self c.in-Some.i c.in-Some.row c.loop-i.invariant.2 c.in-Some.ensures.steps).0
 
-pub overflow_add-line : goal.overflow_add-line
-overflow_add-line c = omega (arith, c.well_formed, count_fits _ _ _ _ _ _ (at_row c))
+counted : (c : In-Some) → enumerate_count c.next.new.self ≡ c.in-Some.i + 1
+counted c = (next_row c.loop-i.i-iterator c.next.new.self c.in-Some.i c.in-Some.row c.loop-i.invariant.2 c.in-Some.ensures.steps).3
 
-pub loop-row-preserved-then-is_skipped : goal.loop-row-preserved-then-is_skipped
-loop-row-preserved-then-is_skipped c =
-    let at = goal.at.loop-row-preserved-then-is_skipped c in
-    let skip = sym (ap skipped c.before_return-content.ensures) ∙ sym c.is_skipped.ensures ∙ c.if-is_skipped.true in
-    (tt, tt, same-mark at.In-Some, skip-line _ _ _ _ _ _ (at_row at.In-Some) skip)
+-- and where no line is left
+at-end : (c : In-None) → Sofar c.args.text.now [] (enumerate_count c.loop-i.i-iterator) c.loop-i.headed (told_all (vec_items c.loop-i.calls))
+at-end c =
+    subst (λ ls. Sofar c.args.text.now ls (enumerate_count c.loop-i.i-iterator) c.loop-i.headed (told_all (vec_items c.loop-i.calls)))
+    (no_row c.loop-i.i-iterator c.next.new.self c.in-None.ensures.steps) c.loop-i.invariant.3
+
+pub loop-i-init : goal.loop-i-init
+loop-i-init c =
+    let same = c.into_iter-i-iterator.ensures.into_iter_gives in
+    let source = ap enumerate_source same ∙ c.enumerate-i-items.ensures.source in
+    let count = ap enumerate_count same ∙ c.enumerate-i-items.ensures.count in
+    let made = c.split.ensures in
+    let live = ap split_has_more source ∙ made.has_more in
+    let whole = ap split_text source ∙ made.text in
+    let more : rows_left c.into_iter-i-iterator.result ≡ lines c.args.text.now = (λ i. left_lines (live i) (whole i)) in (
+      search rules,
+      tt,
+      ap split_pattern source ∙ made.pattern,
+      subst (λ n. Sofar c.args.text.now (rows_left c.into_iter-i-iterator.result) n None (told_all (vec_items c.new-calls.result))) (sym count)
+          (subst (λ ls. Sofar c.args.text.now ls 0 None (told_all (vec_items c.new-calls.result))) (sym more)
+          (none_yet c.args.text.now (told_all (vec_items c.new-calls.result)) (ap told_all c.new-calls.ensures.items))),
+    )
+
+pub loop-i-preserved-then-is_skipped : goal.loop-i-preserved-then-is_skipped
+loop-i-preserved-then-is_skipped c =
+    let at = goal.at.loop-i-preserved-then-is_skipped c in
+    let skip = sym (ap skipped c.before_return-content.ensures) ∙ sym c.is_skipped.ensures ∙ c.if-is_skipped.true in (
+      c.in-Some.ensures.goes.keeps,
+      tt,
+      feeds at.In-Some,
+      subst (λ n. Sofar c.args.text.now (rows_left c.next.new.self) n c.loop-i.headed (told_all (vec_items c.loop-i.calls))) (sym (counted at.In-Some)) (skip-line _ _ _ _ _ _ (at_row at.In-Some) skip),
+    )
 
 plain : (c : Else-is_skipped) → skipped (content c.in-Some.row.now) ≡ false
 plain c = sym (ap skipped c.before_return-content.ensures) ∙ sym c.is_skipped.ensures ∙ c.if-is_skipped.false
 
 -- the invariant before the heading
-before-heading : (c : In-None-headed) → Sofar c.args.text.now (c.in-Some.row.now ∷ left_lines (split_has_more c.next.new.self) (split_text c.next.new.self)) c.loop-row.line None (told_all (vec_items c.loop-row.calls))
+before-heading : (c : In-None-headed) → Sofar c.args.text.now (c.in-Some.row.now ∷ rows_left c.next.new.self) c.in-Some.i None (told_all (vec_items c.loop-i.calls))
 before-heading c =
-    subst (λ h. Sofar c.args.text.now (c.in-Some.row.now ∷ left_lines (split_has_more c.next.new.self) (split_text c.next.new.self)) c.loop-row.line h (told_all (vec_items c.loop-row.calls)))
+    subst (λ h. Sofar c.args.text.now (c.in-Some.row.now ∷ rows_left c.next.new.self) c.in-Some.i h (told_all (vec_items c.loop-i.calls)))
     c.in-None-headed.is (at_row (goal.at.In-None-headed c).In-Some)
 
 -- and after it
-after-heading : (c : In-Some-headed) → Sofar c.args.text.now (c.in-Some.row.now ∷ left_lines (split_has_more c.next.new.self) (split_text c.next.new.self)) c.loop-row.line (Some (c.in-Some-headed.kind, c.in-Some-headed.field-0-1)) (told_all (vec_items c.loop-row.calls))
+after-heading : (c : In-Some-headed) → Sofar c.args.text.now (c.in-Some.row.now ∷ rows_left c.next.new.self) c.in-Some.i (Some (c.in-Some-headed.kind, c.in-Some-headed.field-0-1)) (told_all (vec_items c.loop-i.calls))
 after-heading c =
-    subst (λ h. Sofar c.args.text.now (c.in-Some.row.now ∷ left_lines (split_has_more c.next.new.self) (split_text c.next.new.self)) c.loop-row.line h (told_all (vec_items c.loop-row.calls)))
+    subst (λ h. Sofar c.args.text.now (c.in-Some.row.now ∷ rows_left c.next.new.self) c.in-Some.i h (told_all (vec_items c.loop-i.calls)))
     c.in-Some-headed.is (at_row (goal.at.In-Some-headed c).In-Some)
 
 pub returns-in_err-read_heading-in-None-headed : goal.returns-in_err-read_heading-in-None-headed
@@ -51,17 +82,18 @@ returns-in_err-read_heading-in-None-headed c =
     let f = c.in_err-read_heading-in-None-headed.field-0.0 in
     lines-handed _ _ c.from_residual.result f c.from_residual.ensures.1
     (heading-stops _ _ _ _ _ (before-heading at.In-None-headed) (plain at.Else-is_skipped) f
-    (subst (λ bs. (f ≡ Memory) ⊎ ((line_of f ≡ Some (c.loop-row.line + 1)) × NoneIs (HeadingAs bs))) c.before_return-content.ensures c.in_err-read_heading-in-None-headed.ensures))
+    (subst (λ bs. (f ≡ Memory) ⊎ ((line_of f ≡ Some (c.in-Some.i + 1)) × NoneIs (HeadingAs bs))) c.before_return-content.ensures c.in_err-read_heading-in-None-headed.ensures))
 
-pub loop-row-preserved-in-None-headed : goal.loop-row-preserved-in-None-headed
-loop-row-preserved-in-None-headed c =
-    let at = goal.at.loop-row-preserved-in-None-headed c in
+pub loop-i-preserved-in-None-headed : goal.loop-i-preserved-in-None-headed
+loop-i-preserved-in-None-headed c =
+    let at = goal.at.loop-i-preserved-in-None-headed c in
     let v = c.in_ok-read_heading-in-None-headed.field-0 in (
+      c.in-Some.ensures.goes.keeps,
       tt,
-      tt,
-      same-mark at.In-Some,
-      heading-line _ _ _ _ _ (before-heading at.In-None-headed) (plain at.Else-is_skipped) v
-          (subst (λ bs. Sole (HeadingAs bs) v) c.before_return-content.ensures c.in_ok-read_heading-in-None-headed.ensures),
+      feeds at.In-Some,
+      subst (λ n. Sofar c.args.text.now (rows_left c.next.new.self) n (Some v) (told_all (vec_items c.loop-i.calls))) (sym (counted at.In-Some))
+          (heading-line _ _ _ _ _ (before-heading at.In-None-headed) (plain at.Else-is_skipped) v
+          (subst (λ bs. Sole (HeadingAs bs) v) c.before_return-content.ensures c.in_ok-read_heading-in-None-headed.ensures)),
     )
 
 pub returns-in_err-read_call-in-Some-headed : goal.returns-in_err-read_call-in-Some-headed
@@ -70,19 +102,31 @@ returns-in_err-read_call-in-Some-headed c =
     let f = c.in_err-read_call-in-Some-headed.field-0.0 in
     lines-handed _ _ c.from_residual-in_err-read_call-in-Some-headed.result f c.from_residual-in_err-read_call-in-Some-headed.ensures.1
     (call-stops _ _ _ _ _ _ (after-heading at.In-Some-headed) (plain at.Else-is_skipped) f
-    (subst (λ n. (f ≡ Memory) ⊎ ((line_of f ≡ Some (c.loop-row.line + 1)) × NoneIs (CallAs n (content c.in-Some.row.now)))) c.limit_of.ensures
-    (subst (λ bs. (f ≡ Memory) ⊎ ((line_of f ≡ Some (c.loop-row.line + 1)) × NoneIs (CallAs c.limit_of.result bs))) c.before_return-content.ensures c.in_err-read_call-in-Some-headed.ensures)))
+    (subst (λ bs. (f ≡ Memory) ⊎ ((line_of f ≡ Some (c.in-Some.i + 1)) × NoneIs (CallAs (limit_of c.in-Some-headed.kind) bs))) c.before_return-content.ensures
+    (subst (λ limit. (f ≡ Memory) ⊎ ((line_of f ≡ Some (c.in-Some.i + 1)) × NoneIs (CallAs limit c.before_return-content.result.now))) c.limit.ensures c.in_err-read_call-in-Some-headed.ensures)))
 
-pub loop-row-preserved : goal.loop-row-preserved
-loop-row-preserved c =
-    let at = goal.at.loop-row-preserved c in
+pub loop-i-preserved : goal.loop-i-preserved
+loop-i-preserved c =
+    let at = goal.at.loop-i-preserved c in
     let x = c.in_ok-read_call-in-Some-headed.field-0 in
     let pushed = chosen _ _ _ _ c.push.ensures.items (ap is_ok c.in_ok-push-in-Some-headed.was) in
-    let one =
-    subst (λ n. Sole (CallAs n (content c.in-Some.row.now)) (told x)) c.limit_of.ensures
-    (subst (λ bs. Sole (CallAs c.limit_of.result bs) (told x)) c.before_return-content.ensures c.in_ok-read_call-in-Some-headed.ensures) in (
+    let one = subst (λ bs. Sole (CallAs (limit_of c.in-Some-headed.kind) bs) (told x)) c.before_return-content.ensures
+    (subst (λ limit. Sole (CallAs limit c.before_return-content.result.now) (told x)) c.limit.ensures c.in_ok-read_call-in-Some-headed.ensures) in (
+      c.in-Some.ensures.goes.keeps,
       tt,
-      tt,
-      same-mark at.In-Some,
-      again-told _ _ _ _ _ _ (vec_items c.loop-row.calls) (vec_items c.push.new.self) (after-heading at.In-Some-headed) (plain at.Else-is_skipped) x one c.in-Some-headed.is pushed,
+      feeds at.In-Some,
+      subst (λ n. Sofar c.args.text.now (rows_left c.next.new.self) n c.loop-i.headed (told_all (vec_items c.push.new.self))) (sym (counted at.In-Some))
+          (again-told _ _ _ _ _ _ (vec_items c.loop-i.calls) (vec_items c.push.new.self) (after-heading at.In-Some-headed) (plain at.Else-is_skipped) x one c.in-Some-headed.is pushed),
     )
+
+pub returns-in_err-kind : goal.returns-in_err-kind
+returns-in_err-kind c =
+    let end = subst (λ h. Sofar c.args.text.now [] (enumerate_count c.loop-i.i-iterator) h (told_all (vec_items c.loop-i.calls))) c.in_err-kind.ensures.ok_part (at-end (goal.at.returns-in_err-kind c).In-None) in
+    let why = given-error c.loop-i.headed c.in_err-kind.field-0.0 NoHeading c.in_err-kind.ensures.ok_part c.in_err-kind.ensures.value in
+    lines-handed (λ x. ((x.0, x.1), told_all x.2.items)) (lines c.args.text.now) c.from_residual-in_err-kind.result c.in_err-kind.field-0.0 c.from_residual-in_err-kind.ensures.1
+    (inr (inl (why, none_read _ _ _ end)))
+
+pub returns : goal.returns
+returns c =
+    let end = subst (λ h. Sofar c.args.text.now [] (enumerate_count c.loop-i.i-iterator) h (told_all (vec_items c.loop-i.calls))) c.in_ok-kind.ensures.ok_part (at-end (goal.at.returns c).In-None) in
+    all_read _ _ _ _ end

@@ -1,15 +1,23 @@
+use Rattle.std.proofs.Common.{◌≤◌, ◌<◌, arith}
+use Rattle.scripts.specs.Parts.{UnitAt}
+use Rattle.scripts.specs.Readings.{NoneIs}
 use Rattle.scripts.proofs.Numbers.{unit-sole, unit-bad, unit-above}
 use Rattle.scripts.proofs.Soles.{refused}
 use Rattle.scripts.proofs.units.read_unit.Goals as goal
+use Rattle.scripts.proofs.units.read_unit.Goals.{in_default-via-in-Ok+else-word-limit, in_default-via-in_default}
+
+pub returns-in-Ok : goal.returns-in-Ok
+returns-in-Ok c =
+    let told = c.in-Ok.ensures.cases in
+    let under : c.in-Ok.word ≤ c.args.limit = omega (arith, c.if-word-limit.true) in
+    unit-sole c.args.limit c.args.piece.now c.in-Ok.word told.0 told.1 under
 
 pub returns-in_default : goal.returns-in_default
-returns-in_default c = refused _ _ _ c.found.ensures (unit-bad c.args.limit c.args.piece.now c.in_default.field-0 c.in_default.ensures.cases)
-
-pub returns-then-word-limit : goal.returns-then-word-limit
-returns-then-word-limit c =
-    refused _ _ _ c.found-then-word-limit.ensures (unit-above c.args.limit c.args.piece.now c.in-Ok.word c.in-Ok.ensures.cases.0 c.if-word-limit.true)
-
-pub returns : goal.returns
-returns c =
-    let told = c.in-Ok.ensures.cases in
-    unit-sole c.args.limit c.args.piece.now c.in-Ok.word told.0 told.1 c.if-word-limit.false
+returns-in_default c =
+    let none : NoneIs (UnitAt c.args.limit c.args.piece.now) = elim c.in_default.branch [
+      | in_default-via-in-Ok+else-word-limit w ↦
+          let above : c.args.limit < w.in-Ok.word = omega (arith, w.if-word-limit.false) in
+          unit-above c.args.limit c.args.piece.now w.in-Ok.word w.in-Ok.ensures.cases.0 above
+      | in_default-via-in_default w ↦ unit-bad c.args.limit c.args.piece.now w.in_default.field-0 w.in_default.ensures.cases
+    ] in
+    refused _ _ _ c.found.ensures none

@@ -1,4 +1,4 @@
-use Rattle.std.proofs.Common.{◌≡◌, ◌<◌, false, length, Some, None, Ok, Err, string_bytes, Option, Result, sym, refl, ap, ◌∙◌, subst, arith, lit<, true-eqb, false-eqb}
+use Rattle.std.proofs.Common.{◌≡◌, ◌<◌, false, length, Some, Ok, Err, string_bytes, Option, Result, sym, refl, ap, ◌∙◌, subst, arith, lit<, true-eqb, false-eqb}
 use Rattle.std.proofs.lemmas.Str.Pattern.{split_parts}
 use Rattle.std.proofs.lemmas.Result.{err_from_is_err_and, IfOk-at_ok}
 use Rattle.tables.specs.Lines.{content, skipped, Parted, LineAs, KeepsRules}
@@ -7,16 +7,18 @@ use Rattle.tables.specs.declared.fault.TableFault.{TableFault}
 use Rattle.tables.specs.declared.fault.TableFault.TheVariants.{NoColon, NoName}
 use Rattle.tables.specs.declared.line.Entry.{Entry}
 use Rattle.tables.proofs.Faults.{line-fault, all-blank}
+use Rattle.tables.proofs.Mapped.{given-error}
 use Rattle.tables.proofs.Sole.{keeps-rules}
 use Rattle.tables.proofs.line.read_line.Goals as goal
-use Rattle.tables.proofs.line.read_line.Goals.{Else-is_skipped, In-Some}
+use Rattle.tables.proofs.line.read_line.Goals.{Else-is_skipped, In_ok-front}
 
 plain : (c : Else-is_skipped) → skipped c.before_return-content.result.now ≡ false
 plain c = sym c.is_skipped.ensures ∙ c.if-is_skipped.false
 
-parted : (c : In-Some) → Parted c.before_return-content.result.now c.in-Some.front.now c.in-Some.run'.now
+parted : (c : In_ok-front) → Parted c.before_return-content.result.now c.in_ok-front.front.now c.in_ok-front.run'.now
 parted c =
-    let parts = split_parts 58 c.before_return-content.result.now (Some (c.in-Some.front, c.in-Some.run')) c.in-Some.ensures.cases (lit< tt) in
+    let found = split_parts 58 c.before_return-content.result.now c.split_once.result c.split_once.ensures.cases (lit< tt) in
+    let parts = rw c.in_ok-front.ensures.ok_part at found in
     record { whole = parts.0; first = parts.1 }
 
 -- what is read, and that no rule is refused
@@ -25,27 +27,32 @@ kept c r h =
     let told = subst (λ bs. LineAs c.args.line bs r) c.before_return-content.ensures h in
     (told, keeps-rules c.args.line (content c.args.text.now) r told)
 
-pub returns-in_default : goal.returns-in_default
-returns-in_default c =
-    let at = goal.at.returns-in_default c in
-    let both = kept at.Else-is_skipped (Err (NoColon c.args.line)) (plain at.Else-is_skipped, (refl, split_parts 58 c.before_return-content.result.now None c.in_default.ensures.cases (lit< tt))) in
+pub returns-in_err-front : goal.returns-in_err-front
+returns-in_err-front c =
+    let p = err_from_is_err_and c.from_residual.result c.from_residual.ensures.1 in
+    let at = goal.at.returns-in_err-front c in
+    let found = split_parts 58 c.before_return-content.result.now c.split_once.result c.split_once.ensures.cases (lit< tt) in
+    let none = rw c.in_err-front.ensures.ok_part at found in
+    let why = given-error c.split_once.result c.in_err-front.field-0.0 (NoColon c.args.line) c.in_err-front.ensures.ok_part c.in_err-front.ensures.value in
+    let both = kept at.Else-is_skipped c.from_residual.result
+    (subst (LineAs c.args.line c.before_return-content.result.now) (sym (p.1 ∙ ap Err (p.2 ∙ why))) (plain at.Else-is_skipped, (refl, none))) in
     record { reads = both.0; keeps = both.1 }
 
 pub returns-then-is_empty : goal.returns-then-is_empty
 returns-then-is_empty c =
     let at = goal.at.returns-then-is_empty c in
     let both = kept at.Else-is_skipped (Err (NoName c.args.line))
-    (plain at.Else-is_skipped, (refl, (_, _, parted at.In-Some, all-blank _ _ c.trim_blanks-name.ensures (true-eqb _ 0 c.if-is_empty.ensures)))) in
+    (plain at.Else-is_skipped, (refl, (_, _, parted at.In_ok-front, all-blank _ _ c.trim_blanks-name.ensures (true-eqb _ 0 c.if-is_empty.ensures)))) in
     record { reads = both.0; keeps = both.1 }
 
 pub returns-in_err-words : goal.returns-in_err-words
 returns-in_err-words c =
-    let p = err_from_is_err_and c.from_residual.result c.from_residual.ensures.1 in
+    let p = err_from_is_err_and c.from_residual-in_err-words.result c.from_residual-in_err-words.ensures.1 in
     let at = goal.at.returns-in_err-words c in
     let f = c.in_err-words.field-0.0 in
-    let both = kept at.Else-is_skipped c.from_residual.result
+    let both = kept at.Else-is_skipped c.from_residual-in_err-words.result
     (subst (LineAs c.args.line c.before_return-content.result.now) (sym (p.1 ∙ ap Err p.2))
-    (plain at.Else-is_skipped, line-fault c.args.line _ _ _ f (parted at.In-Some) c.in_err-words.ensures)) in
+    (plain at.Else-is_skipped, line-fault c.args.line _ _ _ f (parted at.In_ok-front) c.in_err-words.ensures)) in
     record { reads = both.0; keeps = both.1 }
 
 pub returns : goal.returns
@@ -57,10 +64,10 @@ returns c =
     let both = kept at.Else-is_skipped (Ok (Some entry)) (
       plain at.Else-is_skipped,
       record {
-        front = c.in-Some.front.now;
-        run = c.in-Some.run'.now;
-        parted = parted at.In-Some;
-        trimmed = subst (Trimmed c.in-Some.front.now) (sym name) c.trim_blanks-name.ensures;
+        front = c.in_ok-front.front.now;
+        run = c.in_ok-front.run'.now;
+        parted = parted at.In_ok-front;
+        trimmed = subst (Trimmed c.in_ok-front.front.now) (sym name) c.trim_blanks-name.ensures;
         named = subst (λ l. 0 < length l) (sym name) some;
         words = c.in_ok-words.ensures;
         place = refl;

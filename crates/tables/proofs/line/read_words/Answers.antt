@@ -1,36 +1,33 @@
-use Rattle.std.proofs.Common.{◌<◌, length, is_ok, sym, ap, subst, arith, true-eqb, false-eqb}
+use Rattle.std.proofs.Common.{Err, rules, is_ok, sym, ap, ◌∙◌, subst}
 use Rattle.std.proofs.ResultArms.{chosen}
+use Rattle.std.proofs.lemmas.Result.{err_from_is_err_and}
+use Rattle.tables.specs.Lines.{RunAs}
+use Rattle.tables.specs.Numerals.{ReadAs}
 use Rattle.tables.proofs.Faults.{run-fault}
-use Rattle.tables.proofs.Runs.{Sofar, none_yet, shorter, stops-here, one_more, all_read}
+use Rattle.tables.proofs.Mapped.{given-err, given-ok}
+use Rattle.tables.proofs.Runs.{Sofar, none_yet, stops-here, one_more, all_read}
 use Rattle.tables.proofs.line.read_words.Goals as goal
-use Rattle.tables.proofs.line.read_words.Goals.{After-cut_piece}
 
-some : (c : After-cut_piece) → 0 < length c.loop-rest.rest.now
-some c = omega (arith, false-eqb _ 0 c.loop-rest-test.ensures)
+pub loop-piece-init : goal.loop-piece-init
+loop-piece-init c =
+    let left = ap (λ p. p.rest.now) c.into_iter-piece-iterator.ensures.into_iter_gives ∙ c.new-piece-items.ensures in
+    subst (Sofar c.args.run.now _) (sym left) (subst (λ ws. Sofar c.args.run.now ws c.args.run.now) (sym c.new-words.ensures.items) (none_yet c.args.run.now))
 
-pub loop-rest-init : goal.loop-rest-init
-loop-rest-init c =
-    let cut = c.skip_blanks-rest.ensures in
-    (c.skip_blanks-rest.utf8, subst (λ l. Sofar c.args.run.now l c.skip_blanks-rest.result.now) (sym c.new-words.ensures.items) (none_yet _ cut.0 _ cut.1))
+pub returns-in_err-word : goal.returns-in_err-word
+returns-in_err-word c =
+    let p = err_from_is_err_and c.from_residual.result c.from_residual.ensures.1 in
+    let (why, is, made) = given-err c.read_word.result c.map_err.result _ c.in_err-word.field-0.0 c.map_err.ensures.cases c.in_err-word.was in
+    let bad = subst (ReadAs c.in-Some.piece.now) is c.read_word.ensures.cases in
+    subst (RunAs c.args.line c.args.run.now) (sym (p.1 ∙ ap Err p.2))
+    (run-fault c.args.line c.args.run.now _ c.in-Some.piece.now why _ (stops-here c.loop-piece.invariant c.in-Some.ensures.steps) bad (search rules))
 
-pub returns-in-Err : goal.returns-in-Err
-returns-in-Err c =
-    let to = stops-here c.loop-rest.invariant.1 (some (goal.at.returns-in-Err c).After-cut_piece) c.cut_piece.ensures in
-    run-fault c.args.line c.args.run.now _ c.cut_piece.result.0.now c.in-Err.fault c.word_fault.result to c.in-Err.ensures.cases c.word_fault.ensures
-
-pub loop-rest-smaller : goal.loop-rest-smaller
-loop-rest-smaller c =
-    let skip = c.skip_blanks-rest-in-loop-rest.ensures in
-    shorter c.loop-rest.invariant.1 (some (goal.at.loop-rest-smaller c).After-cut_piece) c.cut_piece.ensures skip.0 _ skip.1
-
-pub loop-rest-preserved : goal.loop-rest-preserved
-loop-rest-preserved c =
-    let skip = c.skip_blanks-rest-in-loop-rest.ensures in
-    let pushed = chosen _ _ _ _ c.push.ensures.items (ap is_ok c.in_ok-push-in-Ok.was) in (
-      c.skip_blanks-rest-in-loop-rest.utf8,
-      subst (λ l. Sofar c.args.run.now l c.skip_blanks-rest-in-loop-rest.result.now) (sym pushed)
-          (one_more c.loop-rest.invariant.1 (some (goal.at.loop-rest-preserved c).After-cut_piece) c.cut_piece.ensures c.in-Ok.word skip.0 _ c.in-Ok.ensures.cases.0 c.in-Ok.ensures.cases.1 skip.1),
-    )
+pub loop-piece-preserved : goal.loop-piece-preserved
+loop-piece-preserved c =
+    let pushed = chosen _ _ _ _ c.push.ensures.items (ap is_ok c.in_ok-push.was) in
+    let is = given-ok c.read_word.result c.map_err.result _ c.in_ok-word.word c.map_err.ensures.cases c.in_ok-word.was in
+    let good = subst (ReadAs c.in-Some.piece.now) is c.read_word.ensures.cases in
+    subst (λ ws. Sofar c.args.run.now ws c.next.new.self.rest.now) (sym pushed)
+    (one_more c.loop-piece.invariant c.in-Some.ensures.steps c.in_ok-word.word good.0 good.1)
 
 pub returns : goal.returns
-returns c = all_read c.loop-rest.invariant.1 (true-eqb _ 0 c.loop-rest-test.ensures)
+returns c = all_read c.loop-piece.invariant c.in-None.ensures.steps.0

@@ -1,5 +1,4 @@
 use Rattle.std.proofs.Common.{◌+◌, not, take, vec_items, sym, ap, ◌∙◌, subst}
-use Rattle.std.proofs.lemmas.List.{take_all}
 use Rattle.tables.specs.Rules.{name_of}
 use Rattle.verdicts.specs.Names.{FoundAs}
 use Rattle.verdicts.specs.Surveys.{WithNew}
@@ -13,15 +12,12 @@ loop-entry-preserved c =
     let new = c.args.new.now in
     let i = c.loop-entry.entry-index in
     let e = c.entry-item.result in
-    let found : FoundAs old (name_of e) c.find.result = subst (λ name. FoundAs old name c.find.result) c.as_str-name.ensures.value (c.find.ensures c.in_ok-names.ensures) in
+    let found : FoundAs old (name_of e) c.get.result = rw (← c.as_str-name.ensures.value, ← c.in_ok-old.ensures) c.get.ensures in
     elim c.if-is_none.branch [
       | then-is_none+in_ok-push w ↦
           subst (λ v. WithNew old (take (i + 1) new) (vec_items c.args.lines) (vec_items v)) (sym w.lines-is)
-          (new-step old new i (vec_items c.args.lines) (vec_items c.loop-entry.lines) (vec_items w.push.new.self) e w.new_line.result c.find.result c.loop-entry-test.true c.entry-item.is c.loop-entry.invariant found (c.is_none.ensures ∙ ap not w.if-is_none.true) w.new_line.ensures w.in_ok-push.ensures.items)
+          (new-step old new i (vec_items c.args.lines) (vec_items c.loop-entry.lines) (vec_items w.push.new.self) e w.new_line.result c.get.result c.loop-entry-test.true c.entry-item.is c.loop-entry.invariant found (c.is_none.ensures ∙ ap not w.if-is_none.true) w.new_line.ensures w.in_ok-push.ensures.items)
       | else-is_none w ↦
           subst (λ v. WithNew old (take (i + 1) new) (vec_items c.args.lines) (vec_items v)) (sym w.lines-is)
-          (found-step old new i (vec_items c.args.lines) (vec_items c.loop-entry.lines) e c.find.result c.loop-entry-test.true c.entry-item.is c.loop-entry.invariant found (c.is_none.ensures ∙ ap not w.if-is_none.false))
+          (found-step old new i (vec_items c.args.lines) (vec_items c.loop-entry.lines) e c.get.result c.loop-entry-test.true c.entry-item.is c.loop-entry.invariant found (c.is_none.ensures ∙ ap not w.if-is_none.false))
     ]
-
-pub returns : goal.returns
-returns c = subst (λ es. WithNew c.args.old.now es (vec_items c.args.lines) (vec_items c.loop-entry.lines)) (take_all c.loop-entry.entry-index c.args.new.now c.loop-entry-test.false) c.loop-entry.invariant

@@ -9,7 +9,7 @@ use Rattle.catalogues.proofs.Runs.{length-row}
 use Rattle.catalogues.proofs.model.Model.enter.Goals as goal
 
 pub returns-in-Some : goal.returns-in-Some
-returns-in-Some c _ = (Input (record { number = c.in-Some.met }), refl, ((c.in-Some.ensures, refl), (refl, refl)))
+returns-in-Some c _ = (Input c.in-Some.met, c.number.ensures, ((c.in-Some.ensures.first, refl), (refl, refl)))
 
 pub returns-then-is_err : goal.returns-then-is_err
 returns-then-is_err c modest =
@@ -20,7 +20,7 @@ returns-then-is_err c modest =
     let not_ok : is_ok c.push.result ≡ false = c.is_err.ensures.negation ∙ ap not c.if-is_err.true in
     let items : c.push.new.self.items ≡ old = rw not_ok at c.push.ensures.items in (
       record {
-        sound = c.in_default.ensures;
+        sound = c.in_default.ensures.sound;
         slot = (omega (arith, n, c.len-number.ensures, c.if-number-self.false), omega (arith, n, c.len-number.ensures, c.if-number-self.false));
         room = omega (arith, c.used.ensures, c.saturating_add.ensures, c.if-saturating_add-self.false);
       },
@@ -42,7 +42,7 @@ returns c modest =
     let n : c.len-number.result ≡ length rs = omega (arith, c.len-number.ensures, length-row old) in (
       record {
         granted = record {
-          sound = c.in_default.ensures;
+          sound = c.in_default.ensures.sound;
           slot = (omega (arith, n, c.if-number-self.false), omega (arith, n, c.if-number-self.false));
           room = omega (arith, c.used.ensures, c.saturating_add.ensures, c.if-saturating_add-self.false);
         };

@@ -1,6 +1,7 @@
 use Rattle.std.proofs.Common.{rules}
-use Rattle.kinds.proofs.Judging.{refused-not}
+use Rattle.std.specs.Prelude.{replicate}
+use Rattle.kinds.proofs.Judging.{compared-sound}
 use Rattle.kinds.proofs.rules.RulesKind.compare.Goals as goal
 
-pub returns-in-Err : goal.returns-in-Err
-returns-in-Err c sound-a sound-b = absurd (refused-not _ _ _ _ c.in-Err.field-0 sound-a sound-b (search rules) c.in-Err.ensures)
+pub returns : goal.returns
+returns c = compared-sound c.args.a.now c.args.b.now (replicate 2048 0) c.compare.new.pairs c.compare.result _ c.compare.ensures c.unwrap_or.ensures (search rules)

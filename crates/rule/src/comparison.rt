@@ -1,0 +1,58 @@
+// The binary operators that compare their operands.
+ghost use Rattle.std.specs.Prelude.{◌≡◌};
+ghost use Rattle.rule.specs.Comparisons.{comparison_of, comparison_number, reversed};
+
+/// A comparison. In a rule's words a number stands for it, v of a binary expression.
+#[derive(Clone, Copy, Debug, PartialEq, Eq)]
+pub enum Comparison {
+    Eq,
+    Lt,
+    Le,
+    Ne,
+    Ge,
+    Gt,
+}
+
+impl Comparison {
+    /// The comparison that a number stands for, if it stands for one.
+    pub fn of(number: u32) -> Option<Comparison>
+        ensures { result ≡ comparison_of number }
+    {
+        match number {
+            12 => Some(Comparison::Eq),
+            13 => Some(Comparison::Lt),
+            14 => Some(Comparison::Le),
+            15 => Some(Comparison::Ne),
+            16 => Some(Comparison::Ge),
+            17 => Some(Comparison::Gt),
+            _ => None,
+        }
+    }
+
+    /// The number that stands for it.
+    pub fn number(self) -> u32
+        ensures { result ≡ comparison_number self }
+    {
+        match self {
+            Comparison::Eq => 12,
+            Comparison::Lt => 13,
+            Comparison::Le => 14,
+            Comparison::Ne => 15,
+            Comparison::Ge => 16,
+            Comparison::Gt => 17,
+        }
+    }
+
+    /// The comparison that says the same of exchanged operands.
+    pub fn reversed(self) -> Comparison
+        ensures { result ≡ reversed self }
+    {
+        match self {
+            Comparison::Lt => Comparison::Gt,
+            Comparison::Le => Comparison::Ge,
+            Comparison::Ge => Comparison::Le,
+            Comparison::Gt => Comparison::Lt,
+            Comparison::Eq | Comparison::Ne => self,
+        }
+    }
+}
