@@ -78,6 +78,10 @@ def skeleton(body):
     return tuple(out)
 
 
+def shared(groups):
+    return [" = ".join(places) for places in groups.values() if len(places) > 1]
+
+
 def twins():
     groups = collections.defaultdict(list)
     for name, line, fn, head, contract, body in functions():
@@ -86,9 +90,7 @@ def twins():
         s = skeleton(body)
         if len(s) >= 14:
             groups[s].append(f"{name}:{line}: {fn}")
-    for s, places in groups.items():
-        if len(places) > 1:
-            yield " = ".join(places)
+    return shared(groups)
 
 
 def struct_twins():
@@ -98,9 +100,7 @@ def struct_twins():
             fields = tuple(re.findall(r"^\s*(?:pub(?:\(crate\))? )?(\w+):", m.group(2), re.M))
             if len(fields) >= 2:
                 groups[fields].append(f"{name}: {m.group(1)}")
-    for fields, places in groups.items():
-        if len(places) > 1:
-            yield " = ".join(places)
+    return shared(groups)
 
 
 def own_shapes():

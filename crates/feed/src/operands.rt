@@ -9,7 +9,7 @@ pub(crate) struct Operands {
 
 impl Operands {
     // Two hashes, in the order of their sizes.
-    pub fn of(a: u64, b: u64) -> Operands
+    pub(crate) fn of(a: u64, b: u64) -> Operands
         ensures { result ≡ record { smaller = min a b; larger = max a b } }
     {
         Operands {

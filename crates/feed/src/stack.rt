@@ -29,7 +29,7 @@ impl Model for Stack {
 }
 
 impl Stack {
-    pub fn new() -> Self
+    pub(crate) fn new() -> Self
         ensures { result ≡ [] }
     {
         Stack {
@@ -38,7 +38,7 @@ impl Stack {
         }
     }
 
-    pub fn push(&mut self, frame: Frame)
+    pub(crate) fn push(&mut self, frame: Frame)
         requires { length self.old < 2048 }
         ensures { self.new ≡ frame ∷ self.old }
     {
@@ -46,7 +46,7 @@ impl Stack {
         self.depth += 1;
     }
 
-    pub fn pop(&mut self) -> Option<Frame>
+    pub(crate) fn pop(&mut self) -> Option<Frame>
         ensures last { IfSome result (λ frame. self.old ≡ frame ∷ self.new) }
         ensures empty { IfNone result (self.old ≡ []) }
         ensures unchanged { IfNone result (self.new ≡ self.old) }

@@ -49,7 +49,7 @@ impl<'a> Noted<'a> {
     }
 
     // The hash of node `top`.
-    pub fn hash_node<H: Hasher>(&self, top: usize) -> u64
+    pub(crate) fn hash_node<H: Hasher>(&self, top: usize) -> u64
         requires reduced { AllReduced self.now.words.now self.now.nodes.now }
         requires within { top < length self.now.nodes.now }
         requires noted { NotedBelow (hash_by H.Hasher) self.now.words.now self.now.nodes.now self.now.operands (top + 1) }
@@ -81,7 +81,7 @@ impl<'a> Noted<'a> {
 
     // The hashes of the operands of node `i`, an Eq or a Ne.
     #[tactic(auto, using(crate::proofs::Roots::two, crate::proofs::Roots::operand_below), unfolding(crate::specs::Pending::operands_of))]
-    pub fn hash_operands<H: Hasher>(&self, i: usize) -> Operands
+    pub(crate) fn hash_operands<H: Hasher>(&self, i: usize) -> Operands
         requires reduced { AllReduced self.now.words.now self.now.nodes.now }
         requires within { i < length self.now.nodes.now }
         requires by_hash { way_of (kind_in self.now.nodes.now i) ≡ Way.ByHash }

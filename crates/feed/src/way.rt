@@ -22,7 +22,7 @@ impl Way {
 
     // Of the binary expressions only comparisons are not fed as they stand.
     #[tactic(auto, using(crate::proofs::Orders::binary_way), unfolding(crate::specs::Ways::way_of))]
-    pub fn of(node: Node) -> Way
+    pub(crate) fn of(node: Node) -> Way
         ensures { result ≡ way_of node.entry }
     {
         if node.code != BINARY || node.kids.len() != 2 {
@@ -46,7 +46,7 @@ impl Way {
     }
 
     // The child that is fed after `q` others, if the children are fed one after the other.
-    pub fn nth(self, children: &[u32], q: usize) -> Option<u32>
+    pub(crate) fn nth(self, children: &[u32], q: usize) -> Option<u32>
         ensures { result ≡ slice_get (walked_by self children.now) q }
     {
         match self {

@@ -6,7 +6,6 @@
 
 #![tactic(auto)]
 
-use cases::answer_input;
 use catalogue::record::Slot;
 use hashing::fnv1a::Fnv1a;
 use hashing::hasher::Hasher;
@@ -18,15 +17,17 @@ use scripts::heading::Heading;
 use scripts::script::{Script, read_script};
 use std::alloc::{AllocError, Global};
 use std::io;
+use std::io::Read;
 
+// Kept: the four programs of cases begin alike. One function for them would take closures, and have to ask that these can
+// be called, which no public function here asks.
 fn main(rt: HostRuntime) -> io::Result<()> {
-    answer_input(&rt, read_script, |script| answer_script(&rt, script))
-}
-
-fn answer_script(rt: &HostRuntime, script: Script) -> io::Result<()> {
-    match script {
-        Script::Rules(heading, calls) => play(rt, heading, calls.as_slice()),
-        Script::Names(_, _) => rt.println("expected a catalogue of rules"),
+    let mut bytes = Vec::new(rt.alloc());
+    rt.stdin().read_to_end(&mut bytes)?;
+    match read_script(rt.alloc(), bytes.as_slice()) {
+        Ok(Script::Rules(heading, calls)) => play(&rt, heading, calls.as_slice()),
+        Ok(Script::Names(_, _)) => rt.println("expected a catalogue of rules"),
+        Err(fault) => rt.println(&fault),
     }
 }
 
