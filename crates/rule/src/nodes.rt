@@ -3,6 +3,8 @@ ghost use Rattle.rule.specs.Faults.{number_of};
 ghost use Rattle.rule.specs.Intake.{Read, Refused};
 ghost use Rattle.rule.specs.Nodes.{Spelt};
 
+use crate::codes::{BINARY, BLOCK, PATH};
+use crate::comparison::Comparison;
 use crate::fault::Fault;
 
 // The longest rule, in words, and the most nodes that so many words hold.
@@ -34,6 +36,35 @@ pub struct Node<'a> {
     pub v: u32,
     pub w: u32,
     pub kids: &'a [u32],
+}
+
+impl<'a> Node<'a> {
+    ghost use Rattle.rule.specs.Nodes.{local_of, comparison_in, plain_block};
+
+    /// The local that the node uses: a path to a local does.
+    pub fn local(self) -> Option<u32>
+        ensures { result ≡ local_of self.entry }
+    {
+        (self.code == PATH && self.v == 0).then_some(self.w)
+    }
+
+    /// The comparison that the node makes of its operands: some binary expressions do.
+    pub fn comparison(self) -> Option<Comparison>
+        ensures { result ≡ comparison_in self.entry }
+    {
+        if self.code == BINARY {
+            Comparison::of(self.v)
+        } else {
+            None
+        }
+    }
+
+    /// The node is a block that is not unsafe.
+    pub fn is_plain_block(self) -> bool
+        ensures { result ≡ plain_block self.entry }
+    {
+        self.code == BLOCK && self.v == 0
+    }
 }
 
 /// A rule: its words, and the place of each node's first word.
