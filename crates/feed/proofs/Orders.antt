@@ -1,12 +1,13 @@
 -- What a node feeds by the way of its children: its own words, and then what its children feed.
-use Rattle.std.proofs.Common.{◌≡◌, ℕ, false, ◌&&◌, eqb, ◌⊎◌, Some, None, Option, List, [], ◌∷◌, ◌++◌, length, map, get_or, sym, refl, ap, ◌∙◌, subst, ap₂, inl, inr, ⊎_elim, arith}
+use Rattle.std.proofs.Common.{◌≡◌, ℕ, false, eqb, ◌⊎◌, Some, None, Option, IsSomeAnd, MatchOption, List, [], ◌∷◌, ◌++◌, length, map, get_or, sym, refl, ap, ◌∙◌, subst, ap₂, inl, inr, ⊎_elim, arith}
 use Rattle.std.specs.List.{flat_map}
 use Rattle.std.proofs.lemmas.List.{length-map}
-use Rattle.std.proofs.lemmas.Bool.{eqb-true, eqb-false, ne_eqb, and_parts, and_cases, cond-false, cond_both}
+use Rattle.std.proofs.lemmas.Bool.{eqb-true, eqb-false, ne_eqb, cond-false, cond_both}
 use Rattle.rule.specs.declared.comparison.Comparison.{Comparison}
 use Rattle.rule.specs.declared.comparison.Comparison.TheVariants.{Eq, Lt, Le, Ne, Ge, Gt}
 use Rattle.rule.specs.declared.nodes.Node.{Node}
 use Rattle.rule.specs.Comparisons.{comparison_number, comparison_of}
+use Rattle.rule.specs.Nodes.{comparison_in}
 use Rattle.sameness.specs.Reduction.{reduce_all}
 use Rattle.sameness.specs.Reducing.{NodeReduced}
 use Rattle.sameness.specs.Sameness.{bare_v, bare_w}
@@ -43,12 +44,12 @@ order-none v n = rw (ne_eqb v 12 (n Eq), ne_eqb v 13 (n Lt), ne_eqb v 14 (n Le),
 order-binary : (v : ℕ) → order 14 (bare_v 14 v) ≡ order_by (way_at (comparison_of v))
 order-binary v = by_comparison (λ z o. order 14 (bare_v 14 z) ≡ order_by (way_at o)) order-comparison order-none v
 
--- what the code takes for the way of a binary expression of two operands
-pub binary_way : (n : Node) {o : Option Comparison} → n.code ≡ 14 → length n.kids.now ≡ 2 → o ≡ comparison_of n.v → way_at o ≡ way_of n
+-- what the code takes for the way of two children
+pub binary_way : (n : Node) {o : Option Comparison} → length n.kids.now ≡ 2 → o ≡ comparison_in n → way_at o ≡ way_of n
 unfolding way_of
-binary_way n c l e = rw (c, l, e) refl
+binary_way n l e = rw (e, l) refl
 
--- what the code takes for v of a binary expression
+-- v, where a comparison or none is fed in its place
 abbrev fed_at : ℕ → Option Comparison → ℕ
 fed_at v None = v
 fed_at v (Some k) = comparison_number (fed_as k)
@@ -66,8 +67,26 @@ fed-none : (v : ℕ) → Other v → v ≡ fed_v 14 v
 unfolding fed_v
 fed-none v n = rw (ne_eqb v 13 (n Lt), ne_eqb v 14 (n Le)) refl
 
-pub binary_v : (c v : ℕ) {o : Option Comparison} → c ≡ 14 → o ≡ comparison_of v → fed_at v o ≡ fed_v c v
-binary_v c v e h = rw (e, h) (by_comparison (λ z o. fed_at z o ≡ fed_v 14 z) fed-comparison fed-none v)
+other-v : (c v : ℕ) → eqb c 14 ≡ false → v ≡ fed_v c v
+unfolding fed_v
+other-v c v e = sym (cond-false _ _ _ e)
+
+node-v : (n : Node) → fed_at (bare_v n.code n.v) (comparison_in n) ≡ fed_v n.code (bare_v n.code n.v)
+unfolding bare_v
+node-v n =
+    cond_both (eqb n.code 14) (comparison_of n.v) None (λ o. fed_at (bare_v n.code n.v) o ≡ fed_v n.code (bare_v n.code n.v))
+    (λ h. rw (eqb-true _ _ h) (by_comparison (λ z o. fed_at z o ≡ fed_v 14 z) fed-comparison fed-none n.v))
+    (λ h. other-v _ _ h)
+
+told-v : (d r : ℕ) (o p : Option Comparison) → MatchOption o (p ≡ None) (λ k. IsSomeAnd p (λ y. y ≡ fed_as k)) → MatchOption p (r ≡ d) (λ y. r ≡ comparison_number y) → r ≡ fed_at d o
+told-v d r None p e h = subst (λ x. MatchOption x (r ≡ d) (λ y. r ≡ comparison_number y)) e h
+told-v d r (Some k) None e h = absurd e
+told-v d r (Some k) (Some y) e h = h ∙ ap comparison_number e
+
+-- v of a node as it is fed, where o is its comparison, p what that is fed as, and r the number of p, or v as it is compared
+pub fed_node : (n : Node) (r : ℕ) (o p : Option Comparison) → o ≡ comparison_in n → MatchOption o (p ≡ None) (λ k. IsSomeAnd p (λ y. y ≡ fed_as k))
+    → MatchOption p (r ≡ bare_v n.code n.v) (λ y. r ≡ comparison_number y) → r ≡ fed_v n.code (bare_v n.code n.v)
+fed_node n r o p e m h = told-v _ r o p m h ∙ ap (fed_at (bare_v n.code n.v)) e ∙ node-v n
 
 order_other : (c v : ℕ) → eqb c 14 ≡ false → order c v ≡ ordered
 unfolding order
@@ -87,14 +106,18 @@ two-facts n Direct l e = inr e
 two-facts n Exchanged l e = (l, e)
 two-facts n ByHash l e = (l, e)
 
+order-node : (n : Node) → order_in n ≡ order_by (way_at (comparison_in n))
+order-node n =
+    cond_both (eqb n.code 14) (comparison_of n.v) None (λ o. order_in n ≡ order_by (way_at o))
+    (λ e. ap (λ c. order c (bare_v c n.v)) (eqb-true _ _ e) ∙ order-binary n.v)
+    (λ e. order_other _ _ e)
+
 way-facts : (n : Node) → WayFacts n (way_of n)
 unfolding way_of
 way-facts n =
-    cond_both (eqb n.code 14 && eqb (length n.kids.now) 2) _ Direct (WayFacts n)
-    (λ e.
-    let p = and_parts _ _ e in
-    two-facts n _ (eqb-true _ _ p.1) (ap (λ c. order c (bare_v c n.v)) (eqb-true _ _ p.0) ∙ order-binary n.v))
-    (λ e. ⊎_elim (λ g. inr (order_other _ _ g)) (λ g. inl (eqb-false _ _ g)) (and_cases _ _ e))
+    cond_both (eqb (length n.kids.now) 2) _ Direct (WayFacts n)
+    (λ e. two-facts n _ (eqb-true _ _ e) (order-node n))
+    (λ e. inl (eqb-false _ _ e))
 
 pub facts_at : (n : Node) (y : Way) → way_of n ≡ y → WayFacts n y
 facts_at n y e = subst (WayFacts n) e (way-facts n)

@@ -1,9 +1,9 @@
 -- How the children of a node are fed that is reduced, and the words that it feeds before them.
-use Rattle.std.specs.Prelude.{ℕ, cond, ◌&&◌, Some, None, Option, List, [], ◌∷◌, length, reverse, ◌==◌}
+use Rattle.std.specs.Prelude.{ℕ, cond, Some, None, Option, List, [], ◌∷◌, length, reverse, ◌==◌}
 use Rattle.rule.specs.declared.comparison.Comparison.{Comparison}
 use Rattle.rule.specs.declared.comparison.Comparison.TheVariants.{Eq, Lt, Le, Ne, Ge, Gt}
 use Rattle.rule.specs.declared.nodes.Node.{Node}
-use Rattle.rule.specs.Comparisons.{comparison_of}
+use Rattle.rule.specs.Nodes.{comparison_in}
 use Rattle.sameness.specs.Sameness.{bare_v, bare_w}
 use Rattle.feed.specs.declared.operands.Operands.{Operands}
 use Rattle.feed.specs.declared.way.Way.{Way}
@@ -32,14 +32,14 @@ fed_as Gt = Gt
 
 ---- nodes
 
--- by the comparison that v stands for, if any
+-- by its comparison, if it has one
 abbrev pub way_at : Option Comparison → Way
 way_at None = Direct
 way_at (Some k) = way_by k
 
--- a binary expression of two operands, by its comparison; all else as it stands
+-- a comparison of two operands by that; all else as it stands
 unfoldable pub way_of : Node → Way
-way_of n = cond (n.code == 14 && length n.kids.now == 2) (way_at (comparison_of n.v)) Direct
+way_of n = cond (length n.kids.now == 2) (way_at (comparison_in n)) Direct
 
 -- the children that are fed one after the other, in their turn
 abbrev pub walked_by : Way → List ℕ → List ℕ

@@ -4,7 +4,6 @@ ghost use Rattle.feed.specs.Feed.{fed_v};
 ghost use Rattle.feed.specs.Ways.{fed_as};
 ghost use Rattle.sameness.specs.Sameness.{bare_v};
 
-use rule::codes::BINARY;
 use rule::comparison::Comparison;
 use rule::nodes::Node;
 use sameness::words::bare_v;
@@ -20,18 +19,15 @@ pub(crate) enum Way {
 impl Way {
     ghost use Rattle.feed.specs.Ways.{walked_by, way_by, way_of};
 
-    // Of the binary expressions only comparisons are not fed as they stand.
+    // Only comparisons are not fed as they stand.
     #[tactic(auto, using(crate::proofs::Orders::binary_way), unfolding(crate::specs::Ways::way_of))]
     pub(crate) fn of(node: Node) -> Way
         ensures { result ≡ way_of node.entry }
     {
-        if node.code != BINARY || node.kids.len() != 2 {
+        if node.kids.len() != 2 {
             return Way::Direct;
         }
-        match Comparison::of(node.v) {
-            Some(comparison) => Way::by(comparison),
-            None => Way::Direct,
-        }
+        node.comparison().map_or(Way::Direct, Way::by)
     }
 
     // Eq and Ne feed the hashes of their operands, and Lt and Le exchange these.
@@ -68,16 +64,10 @@ fn fed_as(comparison: Comparison) -> Comparison
 }
 
 // v as it is fed.
-#[tactic(auto, using(crate::proofs::Orders::binary_v), unfolding(crate::specs::Feed::fed_v))]
 pub(crate) fn fed_v(node: Node) -> u32
     ensures { result ≡ fed_v node.entry.code (bare_v node.entry.code node.entry.v) }
 {
-    let v = bare_v(node);
-    if node.code != BINARY {
-        return v;
-    }
-    match Comparison::of(v) {
-        Some(comparison) => fed_as(comparison).number(),
-        None => v,
-    }
+    node.comparison()
+        .map(fed_as)
+        .map_or(bare_v(node), Comparison::number)
 }
