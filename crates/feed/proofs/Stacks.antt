@@ -1,13 +1,13 @@
 -- The stack of a walk: what it holds, and what is pending under it.
-use Rattle.std.proofs.Common.{◌≡◌, ℕ, ◌+◌, ◌<◌, ◌≤◌, List, [], ◌∷◌, ◌++◌, length, Some, None, sym, ap, subst, ◌∙◌, arith, length-append}
+use Rattle.std.proofs.Common.{◌≡◌, ℕ, ◌+◌, ◌<◌, ◌≤◌, List, [], ◌∷◌, ◌++◌, length, reverse, Some, None, sym, ap, subst, ◌∙◌, arith, length-append}
 use Rattle.std.specs.List.{slice_get}
-use Rattle.std.proofs.lemmas.List.{append_assoc, append-nil}
+use Rattle.std.proofs.lemmas.List.{append_assoc, append-nil, reverse-append}
 use Rattle.std.proofs.lemmas.List.Sums.{fold-append}
 use Rattle.hashing.specs.Words.{fed_all}
 use Rattle.rule.specs.declared.nodes.Node.{Node}
 use Rattle.sameness.specs.Reducing.{kind_in}
 use Rattle.feed.specs.declared.operands.Operands.{Operands}
-use Rattle.feed.specs.declared.stack.Frame.{Frame}
+use Rattle.feed.specs.declared.walk.Frame.{Frame}
 use Rattle.feed.specs.Hashed.{AllReduced}
 use Rattle.feed.specs.Ways.{walked, head_of}
 use Rattle.feed.specs.Pending.{node_feed, left, pending, operands_in, NotedBelow}
@@ -116,3 +116,11 @@ module _ (f : List ℕ → ℕ) {ws : List ℕ} {ns : List Node} (os : List Oper
             let P = pending f ws ns deeper in
             let m : length (pending f ws ns (frame ∷ rest)) ≡ length (head_at ns os x) + length P = ap length child-first ∙ length-append (head_at ns os x) P in
             rw (l, p) (omega (arith, m, head-long (kind_in ns x) (operands_in os x)))
+
+---- the frames, the last one first, where some are pushed
+
+pub pushed : {A : Type 0} {x : A} (xs ys : List A) → xs ≡ ys ++ (x ∷ []) → reverse xs ≡ x ∷ reverse ys
+pushed {x = x} xs ys e = ap reverse e ∙ reverse-append ys (x ∷ [])
+
+pub pushed_two : {A : Type 0} {x y : A} (xs ys zs : List A) → xs ≡ ys ++ (x ∷ []) → ys ≡ zs ++ (y ∷ []) → reverse xs ≡ x ∷ (y ∷ reverse zs)
+pushed_two {x = x} xs ys zs e h = pushed xs ys e ∙ ap (λ fs. x ∷ fs) (pushed ys zs h)

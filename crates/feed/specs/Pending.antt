@@ -5,7 +5,7 @@ use Rattle.rule.specs.declared.nodes.Node.{Node}
 use Rattle.sameness.specs.Reduction.{reduce}
 use Rattle.sameness.specs.Reducing.{kind_in}
 use Rattle.feed.specs.declared.operands.Operands.{Operands}
-use Rattle.feed.specs.declared.stack.Frame.{Frame}
+use Rattle.feed.specs.declared.walk.Frame.{Frame}
 use Rattle.feed.specs.declared.way.Way.TheVariants.{ByHash}
 use Rattle.feed.specs.Feed.{feed}
 use Rattle.feed.specs.Ways.{way_of, walked}

@@ -4,7 +4,6 @@ ghost use Rattle.feed.specs.Laws.{HashLaw, OneHash};
 
 pub mod hash;
 mod operands;
-mod stack;
 mod walk;
 mod way;
 

@@ -7,10 +7,10 @@ ghost use Rattle.hashing.specs.Words.{fed_all, hash_by};
 ghost use Rattle.sameness.specs.Reducing.{kind_in};
 
 use crate::operands::Operands;
-use crate::stack::{Frame, Stack};
 use crate::way::{Way, fed_v};
+use arrayvec::ArrayVec;
 use hashing::hasher::Hasher;
-use rule::nodes::Node;
+use rule::nodes::{MOST_NODES, Node};
 use sameness::words::bare_w;
 
 // The nodes of a rule, reduced, and the hashes of the operands of each Eq and Ne, by its node. The words are those of
@@ -21,6 +21,13 @@ pub(crate) struct Noted<'a> {
     pub words: &'a [u32],
     pub nodes: &'a [Node<'a>],
     pub operands: [Operands; 2048],
+}
+
+// A node on the stack of a walk, and how many of its children are done.
+#[derive(Clone, Copy, Default)]
+pub(crate) struct Frame {
+    pub node: u16,
+    pub done: u16,
 }
 
 // Feeds the words of a node that come before its children; the operands are those of an Eq or a Ne.
@@ -56,7 +63,7 @@ impl<'a> Noted<'a> {
         ensures { result ≡ node_hash (hash_by H.Hasher) self.now.words.now top }
     {
         let mut hasher = H::fresh();
-        let mut stack = Stack::new();
+        let mut stack: ArrayVec<Frame, MOST_NODES> = ArrayVec::new();
         self.feed_at::<H>(&mut hasher, top);
         stack.push(Frame {
             node: top as u16,
@@ -70,10 +77,11 @@ impl<'a> Noted<'a> {
                     done: frame.done + 1,
                     ..frame
                 });
-                stack.push(Frame {
+                let below = Frame {
                     node: child as u16,
                     done: 0,
-                });
+                };
+                stack.push(below);
             }
         }
         hasher.end()
