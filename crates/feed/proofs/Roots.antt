@@ -1,11 +1,11 @@
 -- The hashes of the operands, noted node after node, and the hash of the root.
-use Rattle.std.proofs.Common.{◌≡◌, ℕ, ◌+◌, ◌-◌, ◌<◌, List, length, get_or, take, set, sym, ap, ap₂, ◌∙◌, subst, arith, below_more}
-use Rattle.std.proofs.lemmas.List.{get_or-set_same, get_or-set_other, get_or-take, length-set}
+use Rattle.std.proofs.Common.{◌≡◌, ℕ, ◌+◌, ◌-◌, ◌<◌, List, length, get_or, set, ap, ap₂, ◌∙◌, arith, below_more}
+use Rattle.std.proofs.lemmas.List.{get_or-set_same, get_or-set_other, length-set}
 use Rattle.rule.specs.declared.fault.Fault.TheVariants.{TooLong}
 use Rattle.rule.specs.Trees.{tree_of}
 use Rattle.rule.specs.declared.nodes.Node.{Node}
 use Rattle.sameness.specs.declared.reducing.Reduced.{Reduced}
-use Rattle.sameness.specs.Reducing.{NodeReduced, RuleReduced, kind_in, no_kind}
+use Rattle.sameness.specs.Reducing.{RuleReduced, kind_in}
 use Rattle.feed.specs.declared.operands.Operands.{Operands}
 use Rattle.feed.specs.declared.walk.Noted.{Noted}
 use Rattle.feed.specs.declared.way.Way.TheVariants.{ByHash}
@@ -17,15 +17,8 @@ use Rattle.feed.proofs.Orders.{facts_at}
 
 ---- the nodes of a rule, as they are passed on
 
-pub all-reduced : (ws : List ℕ) (r : Reduced) → length (take r.count r.kinds) ≡ r.count → RuleReduced ws r → AllReduced ws (take r.count r.kinds)
-all-reduced ws r l d =
-    record {
-      short = d.sound TooLong (omega arith);
-      some = omega (arith, d.some);
-      few = omega (arith, d.few);
-      all = l ∙ d.count;
-      each = λ i h. subst (NodeReduced ws i) (sym (get_or-take r.count r.kinds i no_kind (omega arith))) (d.each i (omega arith));
-    }
+pub all_reduced : (ws : List ℕ) (r : Reduced) → RuleReduced ws r → AllReduced ws r.kinds.items
+all_reduced ws r d = record { short = d.sound TooLong (omega arith); some = d.some; few = d.few; all = d.count; each = d.each }
 
 module _ (ws : List ℕ) (ns : List Node) (a : AllReduced ws ns) where
   -- the operands of node i

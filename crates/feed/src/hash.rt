@@ -18,8 +18,7 @@ fn hash_root<H: Hasher>(words: &[u32], rule: &Reduced) -> u64
     requires { RuleReduced words.now rule.now }
     ensures { result ≡ hash_of (hash_by H.Hasher) (tree_of words.now) }
 {
-    // Kept: not `rule.kinds()`, whose contract does not say that the array is as long as the count.
-    let nodes = &rule.kinds[..rule.count];
+    let nodes = rule.kinds();
     let mut noted = Noted {
         words,
         nodes,

@@ -1,6 +1,6 @@
 -- The places of the nodes, found one node after the other.
-use Rattle.std.proofs.Common.{◌≡◌, ℕ, zero, suc, ◌+◌, ◌-◌, ◌<◌, ◌≤◌, List, [], ◌∷◌, ◌++◌, length, get_or, take, drop, set, sym, refl, ap, ◌∙◌, subst, ⊎_elim, arith, length-drop}
-use Rattle.std.proofs.lemmas.List.{drop_more, drop-drop, get_or-drop, drop_all, append_assoc, take_more_set, append-nil}
+use Rattle.std.proofs.Common.{◌≡◌, ℕ, zero, suc, ◌+◌, ◌-◌, ◌<◌, ◌≤◌, List, [], ◌∷◌, ◌++◌, length, get_or, drop, sym, refl, ap, ◌∙◌, subst, ⊎_elim, arith, length-drop}
+use Rattle.std.proofs.lemmas.List.{drop_more, drop-drop, get_or-drop, drop_all, append_assoc, append-nil}
 use Rattle.std.proofs.lemmas.Bool.{cases_lt}
 use Rattle.rule.specs.Intake.{Whole, Read, nodes, offset}
 use Rattle.rule.specs.Run.{lacks, starts, offsets, kids_at}
@@ -80,10 +80,10 @@ pub found_none : (ws : List ℕ) → Found ws [] 0
 unfolding offsets
 found_none ws = record { places = refl; ended = refl }
 
-pub found-more : (ws at : List ℕ) (k p : ℕ) → k < length at → p < length ws → p + (4 + kids_at ws p) ≤ length ws → Found ws (take k at) p → Found ws (take (k + 1) (set at k p)) (p + (4 + kids_at ws p))
-found-more ws at k p h l m f =
+pub found-more : (ws os : List ℕ) (p : ℕ) → p < length ws → p + (4 + kids_at ws p) ≤ length ws → Found ws os p → Found ws (os ++ (p ∷ [])) (p + (4 + kids_at ws p))
+found-more ws os p l m f =
     record {
-      places = f.places ∙ ap (λ (z : List ℕ). take k at ++ z) (starts-node ws p l m) ∙ sym (append_assoc (take k at) (p ∷ []) (starts (p + (4 + kids_at ws p)) 0 (drop (p + (4 + kids_at ws p)) ws))) ∙ ap (λ (z : List ℕ). z ++ starts (p + (4 + kids_at ws p)) 0 (drop (p + (4 + kids_at ws p)) ws)) (sym (take_more_set at k p h));
+      places = f.places ∙ ap (λ (z : List ℕ). os ++ z) (starts-node ws p l m) ∙ sym (append_assoc os (p ∷ []) (starts (p + (4 + kids_at ws p)) 0 (drop (p + (4 + kids_at ws p)) ws)));
       ended = f.ended ∙ lacks-node ws p l m;
     }
 

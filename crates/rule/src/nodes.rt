@@ -1,4 +1,4 @@
-ghost use Rattle.std.specs.Prelude.{◌≡◌, ℕ, ◌+◌, ◌<◌, ◌≤◌, ◌↔◌, length, take, slice_index, IfSome, IsNone, IfOk, IfErr};
+ghost use Rattle.std.specs.Prelude.{◌≡◌, ℕ, ◌+◌, ◌<◌, ◌≤◌, ◌↔◌, length, slice_index, IfSome, IsNone, IfOk, IfErr};
 ghost use Rattle.rule.specs.Faults.{number_of};
 ghost use Rattle.rule.specs.Intake.{Read, Refused};
 ghost use Rattle.rule.specs.Nodes.{Spelt};
@@ -6,31 +6,30 @@ ghost use Rattle.rule.specs.Nodes.{Spelt};
 use crate::codes::{BINARY, BLOCK, PATH};
 use crate::comparison::Comparison;
 use crate::fault::Fault;
+use arrayvec::ArrayVec;
 
 // The longest rule, in words, and the most nodes that so many words hold.
 pub const MOST_WORDS: usize = 8192;
 
 pub const MOST_NODES: usize = 2048;
 
-// Where the nodes of a rule begin: the first `count` places of `at`.
-// Kept: an array and a count, since this crate uses no heap.
-#[derive(Clone, Copy)]
+/// The places at which the nodes of a rule begin, in their order.
+#[derive(Drop)]
 pub struct Nodes {
-    pub at: [u16; 2048],
-    pub count: usize,
+    pub at: ArrayVec<u16, MOST_NODES>,
 }
 
 impl Nodes {
     /// The places, in the order of the nodes.
     pub fn places(&self) -> &[u16]
-        ensures { result.now ≡ take self.now.count self.now.at }
+        ensures { result.now ≡ self.now.at.items }
     {
-        &self.at[0..self.count.min(MOST_NODES)]
+        self.at.as_slice()
     }
 }
 
-/// A node: its code, its two words, and the numbers of its children.
-#[derive(Clone, Copy)]
+/// A node: its code, its two words, and the numbers of its children. The default is an absent child.
+#[derive(Clone, Copy, Default)]
 pub struct Node<'a> {
     pub code: u32,
     pub v: u32,
@@ -115,7 +114,7 @@ impl<'w, 'p> Rule<'w, 'p> {
 
 // The nodes of a run of words; a run that is too long, empty, or ends inside a node has none.
 pub(crate) fn read_nodes(words: &[u32]) -> Result<Nodes, Fault>
-    ensures ok { IfOk result (λ n. Read words.now (take n.count n.at) × (n.count ≤ 2048)) }
+    ensures ok { IfOk result (λ n. Read words.now n.at.items) }
     ensures err { IfErr result (λ f. Refused words.now f × (number_of f ≤ 2)) }
 {
     if words.len() > MOST_WORDS {
@@ -124,8 +123,7 @@ pub(crate) fn read_nodes(words: &[u32]) -> Result<Nodes, Fault>
     if words.is_empty() {
         return Err(Fault::CutShort);
     }
-    let mut at = [0u16; MOST_NODES];
-    let mut count = 0;
+    let mut at = ArrayVec::new();
     let mut place = 0;
     // Kept: the places are what it finds, and no two nodes need be of one length.
     while place < words.len() {
@@ -136,9 +134,8 @@ pub(crate) fn read_nodes(words: &[u32]) -> Result<Nodes, Fault>
         if words.len() - place - 4 < kids {
             return Err(Fault::CutShort);
         }
-        at[count] = place as u16;
-        count += 1;
+        at.push(place as u16);
         place += 4 + kids;
     }
-    Ok(Nodes { at, count })
+    Ok(Nodes { at })
 }

@@ -25,7 +25,7 @@ pub record NodeReduced (ws : List ℕ) (i : ℕ) (k : Node) : Type 0 where
 -- the rule of a run that meets none of the grounds 1 to 6, with each node reduced
 pub record RuleReduced (ws : List ℕ) (r : Reduced) : Type 0 where
   pub sound : Sound ws
-  pub count : r.count ≡ nodes ws
-  pub some : 0 < r.count
-  pub few : r.count ≤ 2048
-  pub each : (i : ℕ) → i < r.count → NodeReduced ws i (kind_in r.kinds i)
+  pub count : length r.kinds.items ≡ nodes ws
+  pub some : 0 < length r.kinds.items
+  pub few : length r.kinds.items ≤ 2048
+  pub each : (i : ℕ) → i < length r.kinds.items → NodeReduced ws i (kind_in r.kinds.items i)

@@ -1,28 +1,26 @@
 // The nodes of a rule, each reduced.
 ghost use Rattle.sameness.specs.Comparing.{Unsound};
 ghost use Rattle.sameness.specs.Reducing.{RuleReduced};
-ghost use Rattle.std.specs.Prelude.{◌≡◌, take, IfOk, IfErr};
+ghost use Rattle.std.specs.Prelude.{◌≡◌, IfOk, IfErr};
 
 use crate::kind::Branch;
-use rule::codes::ABSENT;
+use arrayvec::ArrayVec;
 use rule::fault::Fault;
 use rule::intake::intake;
-use rule::nodes::Node;
+use rule::nodes::{MOST_NODES, Node};
 
-// What each node comes to: the first `count` of `kinds`.
-// Kept: an array and a count, since this crate uses no heap.
-#[derive(Clone, Copy)]
+/// What each node comes to, in the order of the nodes.
+#[derive(Drop)]
 pub struct Reduced<'a> {
-    pub kinds: [Node<'a>; 2048],
-    pub count: usize,
+    pub kinds: ArrayVec<Node<'a>, MOST_NODES>,
 }
 
 impl<'a> Reduced<'a> {
     /// What the nodes come to, in their order.
     pub fn kinds(&self) -> &[Node<'a>]
-        ensures { result.now ≡ take self.now.count self.now.kinds }
+        ensures { result.now ≡ self.now.kinds.items }
     {
-        self.kinds.get(0..self.count).unwrap_or(&self.kinds)
+        self.kinds.as_slice()
     }
 }
 
@@ -33,21 +31,9 @@ pub fn reduce_rule<'a>(words: &'a [u32]) -> Result<Reduced<'a>, Fault>
 {
     let nodes = intake(words)?;
     let at = nodes.places();
-    // Stands where there is no node.
-    let none = Node {
-        code: ABSENT,
-        v: 0,
-        w: 0,
-        kids: &words[0..0],
-    };
-    let mut kinds = [none; 2048];
-    for (number, kind) in kinds.iter_mut().enumerate() {
-        if number < at.len() {
-            *kind = Branch { words, at, number }.reduce_exprkind();
-        }
+    let mut kinds = ArrayVec::new();
+    for number in 0..at.len() {
+        kinds.push(Branch { words, at, number }.reduce_exprkind());
     }
-    Ok(Reduced {
-        kinds,
-        count: nodes.count,
-    })
+    Ok(Reduced { kinds })
 }

@@ -9,9 +9,7 @@ fn the_expression_one_is_accepted(rt: HostRuntime) -> Result<(), Fail> {
     let Ok(nodes) = intake(&words) else {
         return Err(Fail::new("refused"));
     };
-    assert_eq!(rt; nodes.count, 2);
-    assert_eq!(rt; nodes.at[0], 0);
-    assert_eq!(rt; nodes.at[1], 4);
+    assert_eq!(rt; nodes.places(), [0, 4].as_slice());
     Ok(())
 }
 

@@ -1,12 +1,13 @@
-use Rattle.std.proofs.Common.{rules, refl, ◌∙◌, arith}
-use Rattle.feed.proofs.Roots.{all-reduced, noted-more, noted-same, root-hash}
+use Rattle.std.proofs.Common.{rules, refl, sym, subst, ◌∙◌, arith}
+use Rattle.feed.specs.Hashed.{AllReduced}
+use Rattle.feed.proofs.Roots.{all_reduced, noted-more, noted-same, root-hash}
 use Rattle.feed.proofs.hash.hash_root.Goals as goal
 use Rattle.feed.proofs.hash.hash_root.Goals.{in-ByHash, in_default}
 
 pub loop-i-init : goal.loop-i-init
 loop-i-init g c =
     record {
-      reduced = all-reduced _ _ (omega arith) c.requires;
+      reduced = subst (AllReduced c.args.words.now) (sym c.kinds-nodes.ensures) (all_reduced _ _ c.requires);
       words = refl;
       nodes = refl;
       room = search rules;

@@ -1,4 +1,4 @@
-use Rattle.std.proofs.Common.{ℕ, ◌+◌, ◌<◌, ◌≤◌, List, length, refl, ◌∙◌, arith, length-set, length-take}
+use Rattle.std.proofs.Common.{ℕ, ◌+◌, ◌<◌, ◌≤◌, List, length, sym, refl, subst, arith}
 use Rattle.std.proofs.lemmas.Bool.Decides.{nat_tests}
 use Rattle.rule.specs.declared.fault.Fault.TheVariants.{TooLong, CutShort}
 use Rattle.rule.specs.Intake.{Refused, Short}
@@ -11,7 +11,7 @@ cut : (ws os : List ℕ) (p : ℕ) → Short ws → p < length ws → length ws 
 cut ws os p s h l f = refused-at ws 1 CutShort refl (upto-more ws 0 TooLong refl (upto-none ws) s) (λ w. found-cut ws os p h l f w.ended)
 
 pub loop-place-init : goal.loop-place-init
-loop-place-init c = (found_none _, omega arith, omega arith, refl)
+loop-place-init c = let e = c.new-at.ensures in rw e (found_none _, omega arith, omega arith)
 
 pub returns-then-words-place-lt4-clause-err : goal.returns-then-words-place-lt4-clause-err
 returns-then-words-place-lt4-clause-err c = (cut _ _ _ (omega arith) c.loop-place-test.true (omega arith) c.loop-place.invariant.0, omega arith)
@@ -23,15 +23,12 @@ pub loop-place-preserved : goal.loop-place-preserved
 loop-place-preserved c =
     let i = c.loop-place.invariant in
     let ws = c.args.words.now in
-    let at = c.loop-place.at in
-    let k = c.loop-place.count in
     let p = c.loop-place.place in
-    let b : k < length at = omega arith in
     let f : p + (4 + kids_at ws p) ≤ length ws = omega arith in
-    (found-more ws at k p b c.loop-place-test.true f i.0, omega arith, omega arith, length-set at k p ∙ i.3)
+    (subst (λ os. Found ws os (p + (4 + kids_at ws p))) (sym c.push.ensures.items) (found-more ws _ p c.loop-place-test.true f i.0), omega (arith, c.push.ensures.len), omega arith)
 
 pub returns-clause-ok : goal.returns-clause-ok
 returns-clause-ok c =
     let i = c.loop-place.invariant in
     let a = found_all _ _ _ c.loop-place-test.false i.0 in
-    (record { places = a.0; short = omega arith; whole = record { some = grind (arith, nat_tests); ended = a.1 }; few = simp length-take (omega arith) }, omega arith)
+    record { places = a.0; short = omega arith; whole = record { some = grind (arith, nat_tests); ended = a.1 }; few = omega arith }

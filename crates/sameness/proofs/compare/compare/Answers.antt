@@ -1,4 +1,4 @@
-use Rattle.std.proofs.Common.{◌≡◌, ℕ, ◌≤◌, List, length, Ok, Err, Result, refl, ◌∙◌, subst, arith, length-take}
+use Rattle.std.proofs.Common.{◌≡◌, ℕ, ◌≤◌, List, length, Ok, Err, Result, ◌∙◌, subst, arith, length-take}
 use Rattle.std.specs.Result.{MatchResult, IsErrAnd}
 use Rattle.rule.specs.declared.fault.Fault.{Fault}
 use Rattle.rule.specs.declared.nodes.Nodes.{Nodes}
@@ -17,12 +17,12 @@ intake-ok ws E B (Err x) m n a k e = absurd (subst (λ z. IsErrAnd z (B x)) e k)
 pub invariant_of-l : goal.invariant_of-l
 invariant_of-l c =
     let a : Accepted 6 c.args.first.now c.in_ok-a.a = intake-ok _ _ _ _ _ _ c.intake.ensures c.map_err.ensures.cases c.in_ok-a.was in
-    record { read = rw c.places.ensures (accepted-read 6 _ _ _ (omega arith) a refl) }
+    record { read = rw c.places.ensures (accepted-read 6 _ c.in_ok-a.a (omega arith) a) }
 
 pub invariant_of-r : goal.invariant_of-r
 invariant_of-r c =
     let b : Accepted 6 c.args.second.now c.in_ok-b.b = intake-ok _ _ _ _ _ _ c.intake-2.ensures c.map_err-2.ensures.cases c.in_ok-b.was in
-    record { read = rw c.places-2.ensures (accepted-read 6 _ _ _ (omega arith) b refl) }
+    record { read = rw c.places-2.ensures (accepted-read 6 _ c.in_ok-b.b (omega arith) b) }
 
 pub judge_rules-requires : goal.judge_rules-requires
 judge_rules-requires c =
