@@ -4,7 +4,8 @@ use Rattle.std.specs.Borrow.{Bor}
 use Rattle.std.proofs.lemmas.List.{get_or-map, length-map}
 use Rattle.std.proofs.lemmas.Bool.{cases_lt}
 use Rattle.std.proofs.lemmas.Bool.Decides.{Decides-eqb}
-use Rattle.std.specs.Option.{option_eq}
+use Rattle.std.specs.List.{AllWithin, HoldsAt, fold}
+use Rattle.std.specs.Option.{MatchOption, option_eq}
 use Rattle.catalogue.specs.Classes.{FirstSame, Begins, Begun, entry}
 use Rattle.catalogue.specs.Model.{total}
 use Rattle.catalogues.specs.Naive.{names}
@@ -73,3 +74,34 @@ pub begun-past : (rs : List (List ℕ)) (i n b : ℕ) → n ≤ i → Begun name
 begun-past rs i n b le p =
     let same : min i n ≡ min (i + 1) n = omega arith in
     subst (λ (m : ℕ). Begun names rs m b) same p
+
+-- what a search among the runs by their equality finds
+pub first-row : (items : List (Bor (List ℕ))) (run : List ℕ) (r : Option ℕ)
+    → MatchOption r (AllWithin (λ b. b.now ≡ run → ⊥) items 0 (length items)) (λ i. (i < length items) × HoldsAt (λ b. b.now ≡ run) items i × AllWithin (λ b. b.now ≡ run → ⊥) items 0 i)
+    → FirstSame names (row items) run r
+first-row items run None h =
+    λ j lt e.
+    let d : Bor (List ℕ) = record { ref_ptr = (0, 0); now = [] } in
+    let l : j < length items = omega (arith, length-row items) in
+    h j d (omega arith) l (sym (entry-row items items j d refl l) ∙ e)
+first-row items run (Some i) h =
+    let d : Bor (List ℕ) = record { ref_ptr = (0, 0); now = [] } in (
+      omega (arith, length-row items, h.0),
+      entry-row items items i d refl h.0 ∙ h.1 d,
+      λ j lt e. h.2 j d (omega arith) lt (sym (entry-row items items j d refl (omega (arith, h.0))) ∙ e),
+    )
+
+-- the units of all runs, added up to the highest number M and no further
+capped : (M a : ℕ) (items : List (Bor (List ℕ))) → fold (λ u r. min (u + length r.now) M) (min a M) items ≡ min (a + total (row items)) M
+capped M a [] = omega arith
+capped M a (r ∷ items) =
+    let l = length r.now in
+    let e : min (min a M + l) M ≡ min (a + l) M = omega arith in
+    let s : a + l + total (row items) ≡ a + total (row (r ∷ items)) = omega arith in
+    ap (λ u. fold (λ u r. min (u + length r.now) M) u items) e ∙ capped M (a + l) items ∙ ap (λ n. min n M) s
+
+pub capped-total : (M : ℕ) (items : List (Bor (List ℕ))) → fold (λ u r. min (u + length r.now) M) 0 items ≡ min (total (row items)) M
+capped-total M items =
+    let z : 0 ≡ min 0 M = omega arith in
+    let t : 0 + total (row items) ≡ total (row items) = omega arith in
+    ap (λ u. fold (λ u r. min (u + length r.now) M) u items) z ∙ capped M 0 items ∙ ap (λ n. min n M) t

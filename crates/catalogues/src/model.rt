@@ -95,30 +95,22 @@ impl Model {
     fn first(&self, run: &[u8]) -> Option<usize>
         ensures { FirstSame names (runs_of self.now) run.now result }
     {
-        // Kept: tried `position`, and the check did not find that what it answers is the first equal run.
-        for (i, stored) in self.runs.iter().enumerate() {
-            if *stored == run {
-                return Some(i);
-            }
-        }
-        None
+        self.runs.iter().position(|stored| *stored == run)
     }
 
     // How many bytes the runs have, or the highest number.
     fn used(&self) -> usize
         ensures { result ≡ min (total (runs_of self.now)) usize.MAX }
     {
-        // Kept: tried `fold`, and the check did not find that what it answers is the capped sum.
-        let mut used = 0usize;
-        for run in self.runs.iter() {
-            used = used.saturating_add(run.len());
-        }
-        used
+        self.runs
+            .iter()
+            .fold(0, |used, run| used.saturating_add(run.len()))
     }
 }
 
 /// The fault of the first number of the names' input list that the run meets, or none.
-// Kept: no call of the kind's own intake, since the model is to share no code with what is held against it.
+// Kept: no call of the kind's own intake, since the model is to share no test with what is held against it; the faults and
+// their numbers it shares.
 pub fn number_met(run: &[u8]) -> Option<NameFault>
     ensures sound { IfNone result (SoundBy meets_name run.now) }
     ensures first { IfSome result (λ e. FirstOf meets_name run.now (name_number e)) }
