@@ -9,7 +9,7 @@ use Rattle.verdicts.specs.Outcomes.{OutcomeAs, SoleAs}
 
 -- the line of the rule e of the old table: its name, and the outcome by a rule of the new table that has its name, or that of a
 -- rule in the old table alone where the new one has no such rule
-abbrev pub OldLine : List Entry → Entry → Line → Type 0
+unfoldable pub OldLine : List Entry → Entry → Line → Type 0
 OldLine new e l =
     (l.name.now ≡ name_of e) ×
     (((n : Entry) × Named new (name_of e) n × OutcomeAs (words_of e) (words_of n) l.outcome) ⊎ (Lacks new (name_of e) × SoleAs Old (words_of e) l.outcome))

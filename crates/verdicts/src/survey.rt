@@ -46,12 +46,7 @@ fn old_lines<'a>(heap: Global, old: &'a [Entry], new: &[Entry]) -> Result<Vec<Li
     ensures { IfOk result (λ ls. OldLines new.now old.now ls.items) }
 {
     let new = Names::of(heap, new)?;
-    // Kept: with `map` and `collect` the check does not find that `OldLine` ties each line to its rule, as the closure's run is a relation.
-    let mut lines = Vec::new(heap);
-    for entry in old {
-        lines.push(old_line(entry, &new))?;
-    }
-    Ok(lines)
+    old.iter().map(|entry| old_line(entry, &new)).collect(heap)
 }
 
 // The line of a rule of the old table.

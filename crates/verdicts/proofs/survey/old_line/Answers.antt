@@ -1,8 +1,10 @@
 use Rattle.std.proofs.Common.{inl, inr}
+use Rattle.verdicts.specs.Surveys.{OldLine}
 use Rattle.verdicts.proofs.survey.old_line.Goals as goal
 use Rattle.verdicts.proofs.survey.old_line.Goals.{in-Some, in-None}
 
 pub returns : goal.returns
+unfolding OldLine
 returns c =
     let name = c.as_str-name.ensures.value in
     let words = c.as_slice-words.ensures.value in

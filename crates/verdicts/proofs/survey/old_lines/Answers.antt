@@ -1,8 +1,14 @@
-use Rattle.std.proofs.Common.{vec_items, subst}
+use Rattle.std.proofs.Common.{◌≡◌, ℕ, ◌<◌, IfOk, length, get_or, arith}
+use Rattle.std.proofs.lemmas.Grind.{common_steps}
+use Rattle.tables.specs.declared.line.Entry.{Entry}
+use Rattle.verdicts.specs.declared.survey.Line.{Line}
 use Rattle.verdicts.specs.Surveys.{OldLine}
-use Rattle.verdicts.proofs.Surveying.{old-step}
+use Rattle.verdicts.proofs.Surveying.{lined}
 use Rattle.verdicts.proofs.survey.old_lines.Goals as goal
 
-pub loop-entry-preserved : goal.loop-entry-preserved
-loop-entry-preserved c =
-    old-step c.args.new.now c.args.old.now c.loop-entry.entry-index (vec_items c.loop-entry.lines) (vec_items c.push.new.self) c.entry-item.result c.old_line.result c.loop-entry-test.true c.entry-item.is c.loop-entry.invariant (subst (λ es. OldLine es c.entry-item.result c.old_line.result) c.in_ok-new.ensures c.old_line.ensures) c.in_ok-push.ensures.items
+pub returns : goal.returns
+returns c =
+    let old = c.args.old.now in
+    let many : IfOk c.collect.result (λ ls. length ls.items ≡ length old) = grind (arith, common_steps) in
+    let each : IfOk c.collect.result (λ ls. (k : ℕ) (e : Entry) (l : Line) → k < length old → OldLine c.args.new.now (get_or old k e) (get_or ls.items k l)) = grind (arith, common_steps) in
+    lined _ _ _ many each
