@@ -1,5 +1,5 @@
 -- Names, the runs that stand in the naive model, and what it answers. Assumes nothing.
-use Rattle.std.specs.Prelude.{◌≡◌, ℕ, ◌+◌, ◌^◌, ◌<◌, ◌≤◌, List, length, map, vec_len, vec_capacity, Some, None, Ok, Err}
+use Rattle.std.specs.Prelude.{◌≡◌, ℕ, ◌+◌, ◌^◌, ◌<◌, ◌≤◌, List, length, map, vec_len, vec_capacity, Ok, Err}
 use Rattle.catalogue.specs.Calls.{EnterGranted}
 use Rattle.catalogue.specs.declared.fault.Fault.{Fault}
 use Rattle.catalogue.specs.declared.fault.NotStanding.{NotStanding}
@@ -13,7 +13,7 @@ use Rattle.catalogues.specs.declared.model.Model.{Model}
 use Rattle.catalogues.specs.declared.words.Answer.{Answer}
 use Rattle.catalogues.specs.declared.words.Call.{Call}
 use Rattle.catalogues.specs.declared.words.Call.TheVariants.{Enter, Find, Cut as ToCut}
-use Rattle.catalogues.specs.declared.words.Answer.TheVariants.{Entered, Found, NotFound, Cut, Other, Refused}
+use Rattle.catalogues.specs.declared.words.Answer.TheVariants.{Entered, Found, Cut, Other, Refused}
 
 -- names are the same when they are equal; the model has no hash
 abbrev pub names : Sense ℕ NameFault
@@ -45,8 +45,7 @@ EnterAnswered m run Other t = EnterGranted names m.slots m.units (length (runs_o
 EnterAnswered m run _ t = ⊥
 
 abbrev pub FindAnswered : Model → List ℕ → Answer → Type 0
-FindAnswered m run (Found i) = Answered m (finding run (Ok (Some i))) m
-FindAnswered m run NotFound = Answered m (finding run (Ok None)) m
+FindAnswered m run (Found o) = Answered m (finding run (Ok o)) m
 FindAnswered m run (Refused n) = (e : NameFault) × (n ≡ name_number e) × Answered m (finding run (Err e)) m
 FindAnswered m run _ = ⊥
 

@@ -58,8 +58,7 @@ impl<H: Hasher> Store<H> {
         let slots = self.slots.as_slice();
         let units = self.units.as_slice();
         match find(&self.cat, &Names, slots, units, run) {
-            Ok(Some(number)) => Answer::Found(number),
-            Ok(None) => Answer::NotFound,
+            Ok(found) => Answer::Found(found),
             Err(fault) => Answer::Refused(fault.number()),
         }
     }

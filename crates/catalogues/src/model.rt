@@ -56,7 +56,7 @@ impl Model {
         if let Some(met) = number_met(run) {
             return Answer::Refused(met.number());
         }
-        self.first(run).map_or(Answer::NotFound, Answer::Found)
+        Answer::Found(self.first(run))
     }
 
     fn cut(&mut self, keep: usize) -> Answer

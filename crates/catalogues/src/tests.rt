@@ -20,8 +20,8 @@ fn the_slots_can_be_filled(rt: HostRuntime) -> Result<(), Fail> {
         (Call::Enter(b"a"), Answer::Refused(20)),
         (Call::Enter(b"c"), Answer::Refused(20)),
         (Call::Counts, Answer::Counts(3, 2)),
-        (Call::Find(b"b"), Answer::Found(1)),
-        (Call::Find(b"c"), Answer::NotFound),
+        (Call::Find(b"b"), Answer::Found(Some(1))),
+        (Call::Find(b"c"), Answer::Found(None)),
     ];
     both(&rt, rt.alloc(), 3, 100, &steps)
 }
@@ -58,9 +58,9 @@ fn the_input_is_tested_first_and_the_units_last(rt: HostRuntime) -> Result<(), F
 #[test]
 fn a_name_has_1_to_255_bytes(rt: HostRuntime) -> Result<(), Fail> {
     let steps = [
-        (Call::Find(longest()), Answer::NotFound),
+        (Call::Find(longest()), Answer::Found(None)),
         (Call::Enter(longest()), Answer::Entered(0, 0)),
-        (Call::Find(longest()), Answer::Found(0)),
+        (Call::Find(longest()), Answer::Found(Some(0))),
         (Call::Enter(too_long()), Answer::Refused(1)),
         (Call::Find(too_long()), Answer::Refused(1)),
         (Call::Enter(b""), Answer::Refused(2)),
@@ -93,7 +93,7 @@ fn most_entries<H: Hasher>(rt: &impl Abort, heap: Global) -> Result<(), Fail> {
         (Call::Cut(65535), Answer::Cut),
         (Call::Enter(b"d"), Answer::Entered(65535, 3)),
         (Call::Enter(b"d"), Answer::Refused(20)),
-        (Call::Find(b"d"), Answer::Found(65535)),
+        (Call::Find(b"d"), Answer::Found(Some(65535))),
     ];
     plays(rt, &mut store, &steps);
     Ok(())
@@ -117,7 +117,7 @@ fn old_memory_is_used_again(rt: HostRuntime) -> Result<(), Fail> {
         (Call::Counts, Answer::Counts(4, 3)),
         (Call::Cut(3), Answer::Cut),
         (Call::Counts, Answer::Counts(3, 2)),
-        (Call::Find(b"ccc"), Answer::NotFound),
+        (Call::Find(b"ccc"), Answer::Found(None)),
         (Call::Enter(b"dd"), Answer::Entered(3, 2)),
         (Call::Enter(b"ccc"), Answer::Refused(21)),
         (Call::Enter(b"dd"), Answer::Entered(4, 2)),
@@ -130,7 +130,7 @@ fn old_memory_is_used_again(rt: HostRuntime) -> Result<(), Fail> {
         (Call::Entry(4, b"dd"), Answer::Class(2)),
         (Call::Cut(0), Answer::Cut),
         (Call::Counts, Answer::Counts(0, 0)),
-        (Call::Find(b"aa"), Answer::NotFound),
+        (Call::Find(b"aa"), Answer::Found(None)),
         (Call::Enter(b"dd"), Answer::Entered(0, 0)),
         (Call::Entry(0, b"dd"), Answer::Class(0)),
     ];

@@ -19,9 +19,8 @@ pub enum Call {
 pub enum Answer {
     // the number and the class
     Entered(usize, usize),
-    // Kept: two variants, and no Option inside one, since the tests' tables of steps read so.
-    Found(usize),
-    NotFound,
+    // the first entry that is the same, or that there is none
+    Found(Option<usize>),
     Cut,
     Counts(usize, usize),
     // the entry has that run, and its hash, and is of this class
