@@ -7,8 +7,8 @@ use hashing::hasher::Hasher;
 #[derive(Clone, Copy, Debug, PartialEq, Eq)]
 pub enum NameFault {
     // longer than 255 bytes
-    TooLong,
-    Empty,
+    TooLong = 1,
+    Empty = 2,
 }
 
 impl Numbered for NameFault {
@@ -17,10 +17,7 @@ impl Numbered for NameFault {
     ghost number = { name_number };
 
     fn number(self) -> u8 {
-        match self {
-            NameFault::TooLong => 1,
-            NameFault::Empty => 2,
-        }
+        self as u8
     }
 }
 
