@@ -47,11 +47,10 @@ pub record Tallied (ws os seen sizes : List ℕ) (i : ℕ) : Type 0 where
   pub unseen : (j : ℕ) → i ≤ j → get_or seen j 0 ≡ 0
   pub unsized : (j : ℕ) → i ≤ j → get_or sizes j 0 ≡ 0
   pub total : loose seen sizes ≡ i
-  pub seen_room : length seen ≡ 2048
   pub room : length sizes ≡ 2048
 
-pub tallied-none : (ws os seen sizes : List ℕ) → ((x : ℕ) → get_or seen x 0 ≡ 0) → ((x : ℕ) → get_or sizes x 0 ≡ 0) → length seen ≡ 2048 → length sizes ≡ 2048 → Tallied ws os seen sizes 0
-tallied-none ws os seen sizes z y l m =
+pub tallied-none : (ws os seen sizes : List ℕ) → ((x : ℕ) → get_or seen x 0 ≡ 0) → ((x : ℕ) → get_or sizes x 0 ≡ 0) → length sizes ≡ 2048 → Tallied ws os seen sizes 0
+tallied-none ws os seen sizes z y l =
     record {
       below = below_none _;
       counts = λ x. omega (arith, z x);
@@ -61,20 +60,19 @@ tallied-none ws os seen sizes z y l m =
       unseen = λ j h. z j;
       unsized = λ j h. y j;
       total = loose-zero seen sizes y;
-      seen_room = l;
-      room = m;
+      room = l;
     }
 
 module _ (ws os : List ℕ) (r : Read ws os) where
   pub tallied-more : (seen seen' sizes : List ℕ) (i total : ℕ) → i < length os → Tallied ws os seen sizes i → Added ws (get_or os i 0) i seen seen' sizes total
-      → length seen' ≡ length seen → Tallied ws os seen' (set sizes i total) (i + 1)
+      → length seen' ≡ 2048 → Tallied ws os seen' (set sizes i total) (i + 1)
   tallied-more seen seen' sizes i total h t a l =
       let few = r.few in
       let o = get_or os i 0 in
       let n : i < nodes ws = omega (arith, read-nodes ws os r) in
       let e : o ≡ offset ws i = read-offset ws os r i in
       let b : i < length sizes = omega (arith, t.room) in
-      let bs : i < length seen' = omega (arith, t.seen_room) in
+      let bs : i < length seen' = omega arith in
       let none : (x : ℕ) → i ≤ x → get_or seen' x 0 ≡ 0 = λ x k. omega (arith, a.counts x, t.unseen x k, standing-none x ws (o + 4) (kids_at ws o) i k a.below) in
       let s : total ≡ size (tree_at ws i) =
       a.sum ∙ ap (λ z. 1 + sizes_of ws (z + 4) (kids_at ws z) sizes) e ∙ size-at ws sizes i n (subst (λ z. (q : ℕ) → q < kids_at ws z → kid_at ws z q < i) e a.below) t.sized in
@@ -90,7 +88,6 @@ module _ (ws os : List ℕ) (r : Read ws os) where
         unseen = λ j k. none j (omega arith);
         unsized = λ j k. let d : j ≢ i = omega arith in get_or-set_other sizes i j total 0 d ∙ t.unsized j (omega arith);
         total = omega (arith, a.rest, t.total, loose-sized seen' sizes i total bs b (none i (omega arith)) (t.unsized i (omega arith)));
-        seen_room = l ∙ t.seen_room;
         room = length-set sizes i total ∙ t.room;
       }
 
@@ -125,7 +122,7 @@ module _ (ws os : List ℕ) (r : Read ws os) where
               let g : length os ≤ i = omega arith in
               omega (arith, t.flags x, tallied-child seen sizes i x g t);
         },
-        record { each = λ j h. t.sized j (omega arith); small = λ j h. t.small j; room = t.room },
+        record { each = λ j h. t.sized j (omega arith); small = λ j h. t.small j },
       )
 
   pub tallied-missing : (seen sizes : List ℕ) (i x : ℕ) → i ≡ length os → x < length os - 1 → get_or seen x 0 ≡ 0 → Tallied ws os seen sizes i → Treelike ws → ⊥

@@ -1,5 +1,5 @@
 -- What is counted of the nodes while they are found to be a tree: how often each is a child, and how large its tree is.
-use Rattle.std.specs.Prelude.{◌≡◌, ℕ, zero, suc, ◌+◌, ◌<◌, ◌≤◌, Bool, true, false, cond, List, [], ◌∷◌, length, map, ◌==◌, slice_index}
+use Rattle.std.specs.Prelude.{◌≡◌, ℕ, zero, suc, ◌+◌, ◌<◌, ◌≤◌, Bool, true, false, cond, List, [], ◌∷◌, map, ◌==◌, slice_index}
 use Rattle.rule.specs.Run.{kids_at, kid_at, standing}
 use Rattle.rule.specs.Trees.{tree_at}
 use Rattle.rule.specs.Marks.{size}
@@ -45,4 +45,3 @@ pub data Clash (ws : List ℕ) (o i : ℕ) (seen : List ℕ) : Type 0 where
 pub record Sized (ws sizes : List ℕ) : Type 0 where
   pub each : (i : ℕ) → i < nodes ws → slice_index sizes i ≡ size (tree_at ws i)
   pub small : (i : ℕ) → i < nodes ws → slice_index sizes i ≤ 2048
-  pub room : length sizes ≡ 2048

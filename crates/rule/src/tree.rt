@@ -9,16 +9,19 @@ use crate::nodes::{MOST_NODES, Rule};
 #[derive(Clone, Copy)]
 pub(crate) struct RuleTree<'w, 'p, 's> {
     pub rule: Rule<'w, 'p>,
-    pub sizes: &'s [u16],
+    pub sizes: &'s [u16; MOST_NODES],
     ghost treelike: { Treelike rule.words.now },
     ghost sized: { Sized rule.words.now sizes.now },
 }
 
 // Counts the children of node `i` as seen, and answers how many nodes its tree has.
-fn add_kids(rule: Rule, i: usize, seen: &mut [bool], sizes: &[u16]) -> Result<usize, Fault>
+fn add_kids(
+    rule: Rule,
+    i: usize,
+    seen: &mut [bool; MOST_NODES],
+    sizes: &[u16; MOST_NODES],
+) -> Result<usize, Fault>
     requires inside { i < length rule.at.now }
-    requires seen_room { length seen.old ≡ 2048 }
-    requires sizes_room { length sizes.now ≡ 2048 }
     requires few { loose (flags seen.old) sizes.now ≤ 2048 }
     ensures ok { IfOk result (λ total. Added rule.entry.words.now (slice_index rule.entry.at.now i) i (flags seen.old) (flags seen.new) sizes.now total) }
     ensures err { IfErr result (λ f. (f ≡ Fault.NotATree) × Clash rule.entry.words.now (slice_index rule.entry.at.now i) i (flags seen.old)) }

@@ -7,7 +7,7 @@ use Rattle.rule.proofs.Tallying.{tallied-none, tallied-more, tallied-clash, tall
 use Rattle.rule.proofs.tree.check_tree.Goals as goal
 
 pub loop-i-init : goal.loop-i-init
-loop-i-init c = tallied-none _ _ _ _ (unseen 2048) (zeros 2048) refl refl
+loop-i-init c = tallied-none _ _ _ _ (unseen 2048) (zeros 2048) refl
 
 pub returns-in_err-total-clause-err : goal.returns-in_err-total-clause-err
 returns-in_err-total-clause-err c =
@@ -17,9 +17,7 @@ returns-in_err-total-clause-err c =
 
 pub loop-i-preserved : goal.loop-i-preserved
 loop-i-preserved c =
-    let l : length c.add_kids.new.seen ≡ length c.loop-i.seen = c.add_kids.auto.seen in
-    tallied-more c.args.rule.words.now c.args.rule.at.now c.args.rule.read _ _ c.loop-i.sizes c.loop-i.i _ c.loop-i-test.true c.loop-i.invariant c.in_ok-total.ensures.ok
-    (flags-length _ ∙ l ∙ sym (flags-length _))
+    tallied-more c.args.rule.words.now c.args.rule.at.now c.args.rule.read _ _ c.loop-i.sizes c.loop-i.i _ c.loop-i-test.true c.loop-i.invariant c.in_ok-total.ensures.ok (omega (arith, flags-length c.add_kids.new.seen))
 
 pub returns-then-contains-clause-err : goal.returns-then-contains-clause-err
 returns-then-contains-clause-err c =
@@ -31,5 +29,5 @@ pub returns-clause-ok : goal.returns-clause-ok
 returns-clause-ok c =
     let e : c.loop-i.i ≡ length c.args.rule.at.now = omega (arith, c.loop-i-test.false, c.loop-i.auto.i-end) in
     let few = c.args.rule.read.few in
-    let n = none-unseen (λ y. beq y false) (c.root.result - 0) c.loop-i.seen refl (omega (arith, c.root.ensures, c.loop-i.invariant.seen_room, flags-length c.loop-i.seen)) (sym c.contains.ensures.value ∙ c.if-contains.false) in
+    let n = none-unseen (λ y. beq y false) (c.root.result - 0) c.loop-i.seen refl (omega (arith, c.root.ensures)) (sym c.contains.ensures.value ∙ c.if-contains.false) in
     tallied-all _ _ c.args.rule.read _ _ _ e (λ x h. n x (omega (arith, c.root.ensures))) c.loop-i.invariant
