@@ -42,14 +42,14 @@ says_of r m o o' e s = subst (λ z. Says r m z) e s
 
 ---- the children of a node, one after the other
 
-pub kids-more : (ws : List ℕ) (p q n : ℕ) → q < n → kids_of (trees_of ws) ws (p + q) (n - q) ≡ cons (tree_at ws (get_or ws (p + q) 0)) (kids_of (trees_of ws) ws (p + (q + 1)) (n - (q + 1)))
+kids-more : (ws : List ℕ) (p q n : ℕ) → q < n → kids_of (trees_of ws) ws (p + q) (n - q) ≡ cons (tree_at ws (get_or ws (p + q) 0)) (kids_of (trees_of ws) ws (p + (q + 1)) (n - (q + 1)))
 unfolding kids_of tree_at
 kids-more ws p q n h =
     let e : n - q ≡ suc (n - (q + 1)) = omega arith in
     let a : p + q + 1 ≡ p + (q + 1) = omega arith in
     ap (λ k. kids_of (trees_of ws) ws (p + q) k) e ∙ ap (λ z. cons (get_or (trees_of ws) (get_or ws (p + q) 0) stub) (kids_of (trees_of ws) ws z (n - (q + 1)))) a
 
-pub kids-end : (ws : List ℕ) (p k : ℕ) → k ≡ 0 → kids_of (trees_of ws) ws p k ≡ nil
+kids-end : (ws : List ℕ) (p k : ℕ) → k ≡ 0 → kids_of (trees_of ws) ws p k ≡ nil
 unfolding kids_of
 kids-end ws p k e = ap (kids_of (trees_of ws) ws p) e
 

@@ -1,6 +1,7 @@
 -- What an iterator of a rule's nodes gives.
-use Rattle.std.proofs.Common.{◌≡◌, ℕ, ◌+◌, ◌<◌, ◌≤◌, List, ◌∷◌, length, get_or, drop, map, Some, None, sym, ap, ◌∙◌, subst, arith}
+use Rattle.std.proofs.Common.{◌≡◌, ℕ, ◌+◌, ◌<◌, ◌≤◌, Bool, true, false, not, List, ◌∷◌, length, get_or, drop, map, Some, None, sym, ap, ◌∙◌, subst, arith}
 use Rattle.std.specs.List.{AllWithin, HoldsAt}
+use Rattle.std.proofs.lemmas.Bool.{false≢true}
 use Rattle.std.proofs.Math.ListN.{get_or-map}
 use Rattle.std.proofs.lemmas.List.{length-map, drop_more, drop_all}
 use Rattle.std.proofs.lemmas.Iterator.{YieldsList}
@@ -12,15 +13,23 @@ use Rattle.rule.specs.Run.{code_at, v_at, w_at, offsets}
 use Rattle.rule.specs.Nodes.{Spelt, NextNode, GivesNode, from_the_first}
 use Rattle.rule.specs.Intake.{nodes, offset}
 
--- where an iterator of the rule r gives a node, the node is one of r's, and the iterator goes on with r
-pub one-given : (r : Rule) (s : NodeIter) (n : Node) (t : NodeIter) → s.rule ≡ r → GivesNode s n t → (s.next < length r.at.now) × Spelt r.words.now (get_or r.at.now s.next 0) n × (t.rule ≡ r)
-one-given r s n t e g = subst (λ z. (s.next < length z.at.now) × Spelt z.words.now (get_or z.at.now s.next 0) n × (t.rule ≡ z)) e (g.inside, g.spelt, g.rule)
+-- an iterator of the rule r, at the number i
+module _ (r : Rule) (i : ℕ) (s : NodeIter) (e : s.rule ≡ r) (f : s.next ≡ i) where
+  -- the node that it gives is r's node i, and it goes on behind it
+  pub one-given : (n : Node) (t : NodeIter) → GivesNode s n t → (i < length r.at.now) × Spelt r.words.now (get_or r.at.now i 0) n × (t.rule ≡ r) × (t.next ≡ i + 1)
+  one-given n t g =
+      subst (λ z. (i < length z.at.now) × Spelt z.words.now (get_or z.at.now i 0) n × (t.rule ≡ z) × (t.next ≡ i + 1)) e
+      (subst (λ k. (k < length s.rule.at.now) × Spelt s.rule.words.now (get_or s.rule.at.now k 0) n × (t.rule ≡ s.rule) × (t.next ≡ k + 1)) f (g.inside, g.spelt, g.rule, g.next))
 
--- where it gives none, all were given
-pub all-given : (r : Rule) (s t : NodeIter) → s.rule ≡ r → NextNode s None t → length r.at.now ≤ s.next
-all-given r s t e g = subst (λ z. length z.at.now ≤ s.next) e g.0
+  -- where it gives none, it gave all
+  pub all-given : (t : NodeIter) → NextNode s None t → length r.at.now ≤ i
+  all-given t g = subst (λ z. length z.at.now ≤ i) e (subst (λ k. length s.rule.at.now ≤ k) f g.0)
 
 ---- the nodes without their children
+
+not-not : (b : Bool) → b ≡ not b → ⊥
+not-not true e = false≢true (sym e)
+not-not false e = false≢true e
 
 -- code, v and w
 pub record Head : Type 0 where
@@ -64,12 +73,15 @@ yields-heads r =
     let e : drop 0 r.at.now ≡ offsets r.words.now = r.read.places in
     subst (λ os. YieldsList NextNode head (from_the_first r) (map (head_at r.words.now) os)) e (YieldsList-from_shown NextNode head ahead none-ahead one-ahead (from_the_first r))
 
-module _ (ws : List ℕ) (P : Head → Type 0) where
+-- what a test answers at the heads, said of the nodes by their numbers
+module _ (ws : List ℕ) (test : Head → Bool) (b : Bool) where
   head-is : (i : ℕ) → get_or (heads ws) i (head_at ws 0) ≡ head_at ws (offset ws i)
   head-is i = get_or-map (head_at ws) (offsets ws) i 0
 
-  pub each-head : AllWithin P (heads ws) 0 (length (heads ws)) → (i : ℕ) → i < nodes ws → P (head_at ws (offset ws i))
-  each-head a i h = subst P (head-is i) (a i (head_at ws 0) (omega arith) (omega (arith, length-map (offsets ws) (head_at ws))))
+  pub each-head : AllWithin (λ h. test h ≡ b) (heads ws) 0 (length (heads ws)) → (i : ℕ) → i < nodes ws → test (head_at ws (offset ws i)) ≡ b
+  each-head a i h = ap test (sym (head-is i)) ∙ a i (head_at ws 0) (omega arith) (omega (arith, length-map (offsets ws) (head_at ws)))
 
-  pub some-head : (k : ℕ) × (k < length (heads ws)) × HoldsAt P (heads ws) k → (i : ℕ) × (i < nodes ws) × P (head_at ws (offset ws i))
-  some-head a = (a.0, omega (arith, a.1, length-map (offsets ws) (head_at ws)), subst P (head-is a.0) (a.2 (head_at ws 0)))
+  pub some-head : (k : ℕ) × (k < length (heads ws)) × HoldsAt (λ h. test h ≡ b) (heads ws) k → ((i : ℕ) → i < nodes ws → test (head_at ws (offset ws i)) ≡ not b) → ⊥
+  some-head a f =
+      let h : a.0 < nodes ws = omega (arith, a.1, length-map (offsets ws) (head_at ws)) in
+      not-not b (sym (ap test (sym (head-is a.0)) ∙ a.2 (head_at ws 0)) ∙ f a.0 h)
