@@ -1,42 +1,67 @@
 -- Counting children and adding up sizes, one child after the other.
-use Rattle.std.proofs.Common.{◌≡◌, ℕ, zero, suc, ◌+◌, ◌-◌, ◌<◌, ◌≤◌, cond, eqb, List, [], ◌∷◌, length, get_or, drop, set, replicate, refl, ap, ◌∙◌, subst, ⊎_elim, arith}
+use Rattle.std.proofs.Common.{◌≡◌, ℕ, zero, suc, ◌+◌, ◌<◌, ◌≤◌, cond, eqb, List, [], ◌∷◌, length, get_or, drop, set, replicate, sum_by, count_by, sym, refl, ap, ◌∙◌, subst, ⊎_elim, arith}
 use Rattle.std.proofs.lemmas.Bool.{cases_eq, cases_lt, eq-eqb, ne_eqb, cond-true, cond-false}
+use Rattle.std.proofs.lemmas.List.Sums.{sum_by-cons}
 use Rattle.std.proofs.lemmas.List.{drop_more, drop_all, get_or-replicate, get_or_past, length-replicate}
 use Rattle.rule.specs.Run.{standing, child_of, kids_at}
-use Rattle.rule.specs.Tally.{sizes_of, loose}
+use Rattle.rule.specs.Tally.{loose}
+use Rattle.rule.specs.declared.nodes.Node.{Node}
+use Rattle.rule.specs.Nodes.{Spelt}
+
+-- the sizes of the n nodes whose numbers stand at p and behind it, added up
+unfoldable pub sizes_of : List ℕ → ℕ → ℕ → List ℕ → ℕ
+sizes_of ws p zero sizes = 0
+sizes_of ws p (suc n) sizes = get_or sizes (get_or ws p 0) 0 + sizes_of ws (p + 1) n sizes
 
 -- how often x stands at one place
-abbrev pub hit : ℕ → List ℕ → ℕ → ℕ
+abbrev hit : ℕ → List ℕ → ℕ → ℕ
 hit x ws p = cond (eqb (get_or ws p 0) x) 1 0
 
-pub hit_same : (x : ℕ) (ws : List ℕ) (p : ℕ) → get_or ws p 0 ≡ x → hit x ws p ≡ 1
-hit_same x ws p e = cond-true (eqb (get_or ws p 0) x) 1 0 (eq-eqb _ _ e)
-
-pub hit_other : (x : ℕ) (ws : List ℕ) (p : ℕ) → (get_or ws p 0 ≡ x → ⊥) → hit x ws p ≡ 0
+hit_other : (x : ℕ) (ws : List ℕ) (p : ℕ) → (get_or ws p 0 ≡ x → ⊥) → hit x ws p ≡ 0
 hit_other x ws p n = cond-false (eqb (get_or ws p 0) x) 1 0 (ne_eqb _ _ n)
 
--- the place q of n is passed
-pub standing-more : (x : ℕ) (ws : List ℕ) (p q n : ℕ) → q < n → standing x ws (p + q) (n - q) ≡ hit x ws (p + q) + standing x ws (p + (q + 1)) (n - (q + 1))
-unfolding standing
-standing-more x ws p q n h =
-    let e : n - q ≡ suc (n - (q + 1)) = omega arith in
-    let a : p + q + 1 ≡ p + (q + 1) = omega arith in
-    ap (λ k. standing x ws (p + q) k) e ∙ ap (λ z. hit x ws (p + q) + standing x ws z (n - (q + 1))) a
+-- the numbers of a list, which stand in the run from p on, counted and added up
+module _ (ws : List ℕ) where
+  Standing : ℕ → List ℕ → Type 0
+  Standing p ks = (q : ℕ) → q < length ks → get_or ks q 0 ≡ get_or ws (p + q) 0
 
-pub sizes-more : (ws : List ℕ) (p q n : ℕ) (sizes : List ℕ) → q < n → sizes_of ws (p + q) (n - q) sizes ≡ get_or sizes (get_or ws (p + q) 0) 0 + sizes_of ws (p + (q + 1)) (n - (q + 1)) sizes
-unfolding sizes_of
-sizes-more ws p q n sizes h =
-    let e : n - q ≡ suc (n - (q + 1)) = omega arith in
-    let a : p + q + 1 ≡ p + (q + 1) = omega arith in
-    ap (λ k. sizes_of ws (p + q) k sizes) e ∙ ap (λ z. get_or sizes (get_or ws (p + q) 0) 0 + sizes_of ws z (n - (q + 1)) sizes) a
+  first : (p k : ℕ) (ks : List ℕ) → Standing p (k ∷ ks) → k ≡ get_or ws p 0
+  unfolding Standing
+  first p k ks h =
+      let e : p + 0 ≡ p = omega arith in
+      h 0 (omega arith) ∙ ap (λ a. get_or ws a 0) e
 
-pub standing-end : (x : ℕ) (ws : List ℕ) (p k : ℕ) → k ≡ 0 → standing x ws p k ≡ 0
-unfolding standing
-standing-end x ws p k e = ap (standing x ws p) e
+  others : (p k : ℕ) (ks : List ℕ) → Standing p (k ∷ ks) → Standing (p + 1) ks
+  unfolding Standing
+  others p k ks h q l =
+      let e : p + suc q ≡ p + 1 + q = omega arith in
+      h (suc q) (omega arith) ∙ ap (λ a. get_or ws a 0) e
 
-pub sizes-end : (ws : List ℕ) (p k : ℕ) (sizes : List ℕ) → k ≡ 0 → sizes_of ws p k sizes ≡ 0
-unfolding sizes_of
-sizes-end ws p k sizes e = ap (λ n. sizes_of ws p n sizes) e
+  standing-list : (x p : ℕ) (ks : List ℕ) → Standing p ks → standing x ws p (length ks) ≡ count_by (λ k. eqb k x) ks
+  unfolding standing
+  standing-list x p [] h = refl
+  standing-list x p (k ∷ ks) h =
+      let e : hit x ws p ≡ cond (eqb k x) 1 0 = ap (λ a. cond (eqb a x) 1 0) (sym (first p k ks h)) in
+      omega (arith, e, standing-list x (p + 1) ks (others p k ks h), sum_by-cons (λ a. cond (eqb a x) 1 0) k ks)
+
+  sizes-list : (sizes : List ℕ) (p : ℕ) (ks : List ℕ) → Standing p ks → sizes_of ws p (length ks) sizes ≡ sum_by (λ k. get_or sizes k 0) ks
+  unfolding sizes_of
+  sizes-list sizes p [] h = refl
+  sizes-list sizes p (k ∷ ks) h =
+      let e : get_or sizes (get_or ws p 0) 0 ≡ get_or sizes k 0 = ap (λ a. get_or sizes a 0) (sym (first p k ks h)) in
+      omega (arith, e, sizes-list sizes (p + 1) ks (others p k ks h), sum_by-cons (λ a. get_or sizes a 0) k ks)
+
+  -- the children of the node n
+  module _ (o : ℕ) (n : Node) (s : Spelt ws o n) where
+    kids-stand : Standing (o + 4) n.kids.now
+    unfolding Standing
+    kids-stand q l = s.each q (omega (arith, s.count))
+
+    pub kids-standing : (x : ℕ) → standing x ws (o + 4) (kids_at ws o) ≡ count_by (λ k. eqb k x) n.kids.now
+    kids-standing x = ap (standing x ws (o + 4)) (sym s.count) ∙ standing-list x (o + 4) n.kids.now kids-stand
+
+    pub kids-sizes : (sizes : List ℕ) → sizes_of ws (o + 4) (kids_at ws o) sizes ≡ sum_by (λ k. get_or sizes k 0) n.kids.now
+    kids-sizes sizes = ap (λ m. sizes_of ws (o + 4) m sizes) (sym s.count) ∙ sizes-list sizes (o + 4) n.kids.now kids-stand
 
 -- what is not below the node is none of its children
 pub standing-none : (x : ℕ) (ws : List ℕ) (p n m : ℕ) → m ≤ x → ((q : ℕ) → q < n → get_or ws (p + q) 0 < m) → standing x ws p n ≡ 0

@@ -5,7 +5,7 @@ use Rattle.rule.specs.Run.{offsets, kids_at, kid_at, code_at, v_at, w_at}
 use Rattle.rule.specs.Trees.{Tree, node, stub, kids_of, node_of, grow, trees_of, tree_at}
 use Rattle.rule.specs.Intake.{Read, Treelike, nodes, offset}
 use Rattle.rule.specs.Marks.{size, size_all}
-use Rattle.rule.specs.Tally.{sizes_of}
+use Rattle.rule.proofs.Counting.{sizes_of}
 use Rattle.rule.proofs.Laid.{read-nodes, read-offset}
 
 grow-keeps : (ws os : List ℕ) (acc : List Tree) (i : ℕ) → i < length acc → get_or (grow ws os acc) i stub ≡ get_or acc i stub
@@ -66,7 +66,7 @@ tree-at ws i h low = grow-at ws (offsets ws) [] i i (omega arith) h low
 
 ---- the sizes of the trees
 
-pub sizes-all : (ws sizes : List ℕ) (p n : ℕ) → ((q : ℕ) → q < n → get_or sizes (get_or ws (p + q) 0) 0 ≡ size (tree_at ws (get_or ws (p + q) 0)))
+sizes-all : (ws sizes : List ℕ) (p n : ℕ) → ((q : ℕ) → q < n → get_or sizes (get_or ws (p + q) 0) 0 ≡ size (tree_at ws (get_or ws (p + q) 0)))
     → size_all (kids_of (trees_of ws) ws p n) ≡ sizes_of ws p n sizes
 unfolding kids_of sizes_of size_all tree_at
 sizes-all ws sizes p zero h = refl

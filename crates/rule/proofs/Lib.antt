@@ -1,5 +1,6 @@
 pub mod Grounds
 pub mod Laid
+pub mod Yielded
 pub mod Sought
 pub mod Counting
 pub mod Adding

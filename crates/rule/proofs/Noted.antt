@@ -154,7 +154,6 @@ pub record Passed (p u : ℕ) (m m' : List ℕ) (d n : ℕ → ℕ) : Type 0 whe
   pub each : (x : ℕ) → Met x p u (get_or m x 0) (get_or m' x 0) (d x) (n x)
 
 pub end-within : (b : Bool) (e u : ℕ) → e ≤ u → (e ≤ end_of b e u) × (end_of b e u ≤ u)
-unfolding end_of
 end-within true e u h = (omega arith, h)
 end-within false e u h = (h, omega arith)
 
@@ -218,7 +217,7 @@ ends-own {e = e} U z a k h i =
     k none (a.met (omega arith)) (omega (arith, a.ends h))
 
 closed-more : (b : Bool) (U : ℕ → ℕ) (t : Tree) (ts : Forest) (e u : ℕ) → ((x : ℕ) → 0 < decls x t → end_of b e u ≤ e → U x ≤ uses_of x t) → Closed b U ts → Closed b U (cons t ts)
-unfolding Closed OwnUses end_of
+unfolding Closed OwnUses
 closed-more true U t ts e u h k = (λ x d. h x d (omega arith), k)
 closed-more false U t ts e u h k = tt
 

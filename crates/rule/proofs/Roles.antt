@@ -1,47 +1,55 @@
 -- What a node's words do to the marks, and the walk of a node child by child.
-use Rattle.std.proofs.Common.{◌≡◌, ℕ, suc, ◌+◌, ◌-◌, ◌<◌, ◌≤◌, Bool, ◌&&◌, eqb, ◌⊎◌, List, length, get_or, Result, sym, ap, ◌∙◌, subst, inl, inr, arith}
-use Rattle.std.proofs.lemmas.Bool.{eq-eqb, ne_eqb, cond-true, cond-false, and_left, and_right, and_from}
+use Rattle.std.proofs.Common.{◌≡◌, ℕ, suc, ◌+◌, ◌-◌, ◌<◌, ◌≤◌, Bool, true, false, cond, ◌&&◌, eqb, List, length, get_or, Some, None, Result, sym, refl, ap, ◌∙◌, subst, arith}
+use Rattle.std.proofs.lemmas.Bool.{eq-eqb, ne_eqb, cond-true, cond-false}
 use Rattle.rule.specs.declared.fault.Fault.{Fault}
+use Rattle.rule.specs.declared.nodes.Node.{Node}
+use Rattle.rule.specs.Nodes.{local_of}
 use Rattle.rule.specs.Run.{kids_at, code_at, v_at, w_at}
 use Rattle.rule.specs.Trees.{Tree, nil, cons, stub, kids_of, node_of, trees_of, tree_at}
 use Rattle.rule.specs.Scopes.{declares, uses, plain, role, compares}
 use Rattle.rule.specs.Marks.{size, size_all, steps, steps_all, end_of, Marked, broken, marked, and_then, at_declaration, at_use, note, note_all, Says}
 use Rattle.rule.proofs.Noted.{note-node, note-cons}
 
-module _ (c v w p u : ℕ) (m : List ℕ) where
-  pub note-declares : c ≡ 41 → note p (role c v w) u m ≡ at_declaration v u m
-  unfolding note role
-  note-declares e = ap (λ r. note p r u m) (cond-true (eqb c 41) (declares v) _ (eq-eqb c 41 e))
+uses-of : (b : Bool) (w x : ℕ) → Some x ≡ cond b (Some w) None → cond b (uses w) plain ≡ uses x
+uses-of true w x e = cc
+uses-of false w x e = cc
 
-  pub note-uses : (c ≡ 41 → ⊥) → c ≡ 70 → v ≡ 0 → note p (role c v w) u m ≡ at_use p w m
-  unfolding note role
-  note-uses n e f =
-      ap (λ r. note p r u m)
-      (cond-false (eqb c 41) (declares v) _ (ne_eqb c 41 n)
-      ∙ cond-true (eqb c 70 && eqb v 0) (uses w) plain (and_from _ _ (eq-eqb c 70 e) (eq-eqb v 0 f)))
+plain-of : (b : Bool) (w : ℕ) → None ≡ cond b (Some w) None → cond b (uses w) plain ≡ plain
+plain-of true w e = cc
+plain-of false w e = refl
 
-  pub note-plain : (c ≡ 41 → ⊥) → ((c ≡ 70) × (v ≡ 0 → ⊥)) ⊎ (c ≡ 70 → ⊥) → note p (role c v w) u m ≡ marked m
+module _ (n : Node) (p u : ℕ) (m : List ℕ) where
+  pub note-declares : n.code ≡ 41 → note p (role n.code n.v n.w) u m ≡ at_declaration n.v u m
   unfolding note role
-  note-plain n (inl f) =
-      ap (λ r. note p r u m)
-      (cond-false (eqb c 41) (declares v) _ (ne_eqb c 41 n) ∙ cond-false (eqb c 70 && eqb v 0) (uses w) plain (and_right _ _ (ne_eqb v 0 f.1)))
-  note-plain n (inr f) =
-      ap (λ r. note p r u m)
-      (cond-false (eqb c 41) (declares v) _ (ne_eqb c 41 n) ∙ cond-false (eqb c 70 && eqb v 0) (uses w) plain (and_left _ _ (ne_eqb c 70 f)))
+  note-declares e = ap (λ r. note p r u m) (cond-true (eqb n.code 41) (declares n.v) _ (eq-eqb n.code 41 e))
+
+  -- of a node that declares nothing
+  module _ (d : n.code ≡ 41 → ⊥) where
+    undeclared : role n.code n.v n.w ≡ cond (eqb n.code 70 && eqb n.v 0) (uses n.w) plain
+    unfolding role
+    undeclared = cond-false (eqb n.code 41) (declares n.v) _ (ne_eqb n.code 41 d)
+
+    pub note-uses : (x : ℕ) → Some x ≡ local_of n → note p (role n.code n.v n.w) u m ≡ at_use p x m
+    unfolding note
+    note-uses x e = ap (λ r. note p r u m) (undeclared ∙ uses-of _ n.w x e)
+
+    pub note-plain : None ≡ local_of n → note p (role n.code n.v n.w) u m ≡ marked m
+    unfolding note
+    note-plain e = ap (λ r. note p r u m) (undeclared ∙ plain-of _ n.w e)
 
 pub says_of : {X : Type 0} (r : Result X Fault) (m : List ℕ) (o o' : Marked) → o ≡ o' → Says r m o → Says r m o'
 says_of r m o o' e s = subst (λ z. Says r m z) e s
 
 ---- the children of a node, one after the other
 
-pub kids-more : (ws : List ℕ) (p q n : ℕ) → q < n → kids_of (trees_of ws) ws (p + q) (n - q) ≡ cons (tree_at ws (get_or ws (p + q) 0)) (kids_of (trees_of ws) ws (p + (q + 1)) (n - (q + 1)))
+kids-more : (ws : List ℕ) (p q n : ℕ) → q < n → kids_of (trees_of ws) ws (p + q) (n - q) ≡ cons (tree_at ws (get_or ws (p + q) 0)) (kids_of (trees_of ws) ws (p + (q + 1)) (n - (q + 1)))
 unfolding kids_of tree_at
 kids-more ws p q n h =
     let e : n - q ≡ suc (n - (q + 1)) = omega arith in
     let a : p + q + 1 ≡ p + (q + 1) = omega arith in
     ap (λ k. kids_of (trees_of ws) ws (p + q) k) e ∙ ap (λ z. cons (get_or (trees_of ws) (get_or ws (p + q) 0) stub) (kids_of (trees_of ws) ws z (n - (q + 1)))) a
 
-pub kids-end : (ws : List ℕ) (p k : ℕ) → k ≡ 0 → kids_of (trees_of ws) ws p k ≡ nil
+kids-end : (ws : List ℕ) (p k : ℕ) → k ≡ 0 → kids_of (trees_of ws) ws p k ≡ nil
 unfolding kids_of
 kids-end ws p k e = ap (kids_of (trees_of ws) ws p) e
 

@@ -144,7 +144,7 @@ module _ (U : ℕ → ℕ) where
 
   -- what is declared in an operand has no use left behind it
   within_end : (b : Bool) (t : Tree) (ts : Forest) (e u : ℕ) → Closed b U (cons t ts) → (x : ℕ) → 0 < decls x t → uses_of x t < U x → u ≤ end_of b e u
-  unfolding Closed OwnUses end_of
+  unfolding Closed OwnUses
   within_end true t ts e u k x d h = absurd (omega (arith, k.0 x d))
   within_end false t ts e u k x d h = omega arith
 

@@ -1,7 +1,8 @@
 -- The row of a node is found among the rows of its code.
-use Rattle.std.proofs.Common.{◌≡◌, ℕ, zero, suc, ◌+◌, ◌-◌, ◌<◌, ◌≤◌, Bool, true, false, ◌&&◌, eqb, leb, ◌⊎◌, List, [], ◌∷◌, length, get_or, take, drop, Some, None, sym, refl, ap, ◌∙◌, subst, inl, inr, arith}
+use Rattle.std.proofs.Common.{◌≡◌, ℕ, zero, suc, ◌+◌, ◌-◌, ◌<◌, ◌≤◌, Bool, true, false, cond, ◌&&◌, eqb, leb, ◌⊎◌, List, [], ◌∷◌, length, get_or, take, drop, Some, None, sym, refl, ap, ◌∙◌, subst, inl, inr, arith}
 use Rattle.std.proofs.lemmas.Bool.{and_parts, cases_Bool, ne_eqb, cond-true, cond-false, leb-true, false≢true}
-use Rattle.std.proofs.lemmas.List.{drop_more, get_or-drop, get_or-take}
+use Rattle.std.proofs.lemmas.List.{drop-drop}
+use Rattle.std.specs.List.{find}
 use Rattle.rule.specs.declared.rows.Row.{Row}
 use Rattle.rule.specs.Format.{format, within}
 use Rattle.rule.specs.Lookup.{takes, sought, row_of, apart, placed}
@@ -18,14 +19,14 @@ apart-head c r rs h = go (cases_Bool (eqb r.code c))
     go (inl e) = absurd (false≢true (sym (cond-true (eqb r.code c) false (apart c rs) e) ∙ h))
     go (inr e) = (e, sym (cond-false (eqb r.code c) false (apart c rs) e) ∙ h)
 
-pub sought-none : (rs : List Row) (c x y : ℕ) → apart c rs ≡ true → sought rs c x y ≡ None
+sought-none : (rs : List Row) (c x y : ℕ) → apart c rs ≡ true → sought rs c x y ≡ None
 unfolding sought
 sought-none [] c x y h = refl
 sought-none (r ∷ rs) c x y h =
     let k = apart-head c r rs h in
     cond-false (takes r c x y) (Some r) (sought rs c x y) (other-code r c x y k.0) ∙ sought-none rs c x y k.1
 
-pub sought-skip : (rs : List Row) (n c x y : ℕ) → apart c (take n rs) ≡ true → sought rs c x y ≡ sought (drop n rs) c x y
+sought-skip : (rs : List Row) (n c x y : ℕ) → apart c (take n rs) ≡ true → sought rs c x y ≡ sought (drop n rs) c x y
 unfolding sought
 sought-skip rs zero c x y h = refl
 sought-skip [] (suc n) c x y h = refl
@@ -33,15 +34,17 @@ sought-skip (r ∷ rs) (suc n) c x y h =
     let k = apart-head c r (take n rs) h in
     cond-false (takes r c x y) (Some r) (sought rs c x y) (other-code r c x y k.0) ∙ sought-skip rs n c x y k.1
 
-pub sought-here : (rs : List Row) (k c x y : ℕ) (d : Row) → k < length rs → takes (get_or rs k d) c x y ≡ true → sought (drop k rs) c x y ≡ Some (get_or rs k d)
+-- no row behind the first n is of the code
+sought-front : (rs : List Row) (n c x y : ℕ) → apart c (drop n rs) ≡ true → sought (take n rs) c x y ≡ sought rs c x y
 unfolding sought
-sought-here rs k c x y d h t =
-    ap (λ l. sought l c x y) (drop_more rs k d h) ∙ cond-true (takes (get_or rs k d) c x y) (Some (get_or rs k d)) (sought (drop (k + 1) rs) c x y) t
+sought-front rs zero c x y h = sym (sought-none rs c x y h)
+sought-front [] (suc n) c x y h = refl
+sought-front (r ∷ rs) (suc n) c x y h = ap (cond (takes r c x y) (Some r)) (sought-front rs n c x y h)
 
-pub sought-next : (rs : List Row) (k c x y : ℕ) (d : Row) → k < length rs → takes (get_or rs k d) c x y ≡ false → sought (drop k rs) c x y ≡ sought (drop (k + 1) rs) c x y
+found : (rs : List Row) (c x y : ℕ) → find (λ r. takes r c x y) rs ≡ sought rs c x y
 unfolding sought
-sought-next rs k c x y d h t =
-    ap (λ l. sought l c x y) (drop_more rs k d h) ∙ cond-false (takes (get_or rs k d) c x y) (Some (get_or rs k d)) (sought (drop (k + 1) rs) c x y) t
+found [] c x y = refl
+found (r ∷ rs) c x y = ap (cond (takes r c x y) (Some r)) (found rs c x y)
 
 -- where the rows of code c + i stand
 pub record Standing (c k : ℕ) : Type 0 where
@@ -49,7 +52,7 @@ pub record Standing (c k : ℕ) : Type 0 where
   pub front : apart c (take k format) ≡ true
   pub back : apart c (drop (k + 3) format) ≡ true
 
-pub standing-at : (ks : List ℕ) (c i : ℕ) → placed c ks ≡ true → i < length ks → Standing (c + i) (get_or ks i 0)
+standing-at : (ks : List ℕ) (c i : ℕ) → placed c ks ≡ true → i < length ks → Standing (c + i) (get_or ks i 0)
 unfolding placed
 standing-at [] c i h l = absurd (omega arith)
 standing-at (k ∷ ks) c zero h l =
@@ -92,28 +95,16 @@ pub format-length : ◌≡◌ {A = ℕ} (length format) 83
 unfolding format
 format-length = refl
 
--- one row tried, in the rows as a program holds them
-pub try-here : (rs : List Row) (k c x y : ℕ) (d : Row) → rs ≡ format → k < 83 → takes (get_or rs k d) c x y ≡ true → row_of c x y ≡ sought (drop k format) c x y → Some (get_or rs k d) ≡ row_of c x y
-try-here rs k c x y d e h t i =
-    let t' : takes (get_or format k d) c x y ≡ true = ap (λ l. takes (get_or l k d) c x y) (sym e) ∙ t in
-    let l : k < length format = omega (arith, format-length) in
-    ap (λ z. Some (get_or z k d)) e ∙ sym (i ∙ sought-here format k c x y d l t')
-
-pub try-next : (rs : List Row) (k c x y : ℕ) (d : Row) → rs ≡ format → k < 83 → takes (get_or rs k d) c x y ≡ false → row_of c x y ≡ sought (drop k format) c x y → row_of c x y ≡ sought (drop (k + 1) format) c x y
-try-next rs k c x y d e h t i =
-    let t' : takes (get_or format k d) c x y ≡ false = ap (λ l. takes (get_or l k d) c x y) (sym e) ∙ t in
-    let l : k < length format = omega (arith, format-length) in
-    i ∙ sought-next format k c x y d l t'
-
-pub try-none : (k f c x y : ℕ) → k ≡ f + 3 → Standing c f → row_of c x y ≡ sought (drop k format) c x y → None ≡ row_of c x y
-try-none k f c x y e s i = sym (i ∙ ap (λ n. sought (drop n format) c x y) e ∙ sought-none _ c x y s.back)
-
--- the rows of a code are three of the format's, from its place on
-pub standing : (ks : List ℕ) (c : ℕ) → placed 0 ks ≡ true → c < length ks → Standing c (get_or ks c 0)
-standing ks c h l =
+-- the rows of a code are three of the format's, from its place f on
+pub standing : (ks : List ℕ) (c f : ℕ) → placed 0 ks ≡ true → c < length ks → f ≡ get_or ks c 0 → Standing c f
+standing ks c f h l k =
     let e : 0 + c ≡ c = omega arith in
-    subst (λ a. Standing a (get_or ks c 0)) e (standing-at ks 0 c h l)
+    subst (λ a. Standing a f) e (subst (λ n. Standing (0 + c) n) (sym k) (standing-at ks 0 c h l))
 
--- one of the three rows from f on
-pub row-in : (rs : List Row) (f k : ℕ) (d : Row) → k < f + 3 - f → get_or (take (f + 3 - f) (drop f rs)) k d ≡ get_or rs (f + k) d
-row-in rs f k d h = get_or-take (f + 3 - f) (drop f rs) k d h ∙ get_or-drop f rs k d
+-- the first of these three that takes the words is the code's row; rs are the rows as a program holds them
+pub found-row : (rs : List Row) (f c x y : ℕ) → rs ≡ format → Standing c f → find (λ r. takes r c x y) (take (f + 3 - f) (drop f rs)) ≡ row_of c x y
+unfolding row_of
+found-row rs f c x y e s =
+    let n : f + 3 - f ≡ 3 = omega arith in
+    let d : apart c (drop 3 (drop f format)) ≡ true = rw drop-drop s.back in
+    rw (e, n) (found _ c x y ∙ sought-front (drop f format) 3 c x y d ∙ sym (sought-skip format f c x y s.front))

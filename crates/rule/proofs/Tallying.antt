@@ -7,9 +7,11 @@ use Rattle.rule.proofs.Adding.{flag-at}
 use Rattle.rule.specs.Run.{child_of, kids_at, kid_at, offsets}
 use Rattle.rule.specs.Trees.{tree_at}
 use Rattle.rule.specs.Marks.{size}
+use Rattle.rule.specs.declared.nodes.Node.{Node}
+use Rattle.rule.specs.Nodes.{Spelt}
 use Rattle.rule.specs.Intake.{Read, Treelike, nodes, offset}
-use Rattle.rule.specs.Tally.{flag, flags, loose, sizes_of, AtMostOnce, Added, Clash, high, twice, Sized}
-use Rattle.rule.proofs.Counting.{child-more, child-end, standing-none, loose-sized, loose-zero}
+use Rattle.rule.specs.Tally.{flag, flags, loose, AtMostOnce, Added, Clash, high, twice, Sized}
+use Rattle.rule.proofs.Counting.{sizes_of, kids-standing, kids-sizes, child-more, child-end, standing-none, loose-sized, loose-zero}
 use Rattle.rule.proofs.Grown.{size-at}
 use Rattle.rule.proofs.Laid.{read-nodes, read-offset}
 
@@ -47,11 +49,10 @@ pub record Tallied (ws os seen sizes : List ℕ) (i : ℕ) : Type 0 where
   pub unseen : (j : ℕ) → i ≤ j → get_or seen j 0 ≡ 0
   pub unsized : (j : ℕ) → i ≤ j → get_or sizes j 0 ≡ 0
   pub total : loose seen sizes ≡ i
-  pub seen_room : length seen ≡ 2048
   pub room : length sizes ≡ 2048
 
-pub tallied-none : (ws os seen sizes : List ℕ) → ((x : ℕ) → get_or seen x 0 ≡ 0) → ((x : ℕ) → get_or sizes x 0 ≡ 0) → length seen ≡ 2048 → length sizes ≡ 2048 → Tallied ws os seen sizes 0
-tallied-none ws os seen sizes z y l m =
+pub tallied-none : (ws os seen sizes : List ℕ) → ((x : ℕ) → get_or seen x 0 ≡ 0) → ((x : ℕ) → get_or sizes x 0 ≡ 0) → length sizes ≡ 2048 → Tallied ws os seen sizes 0
+tallied-none ws os seen sizes z y l =
     record {
       below = below_none _;
       counts = λ x. omega (arith, z x);
@@ -61,26 +62,26 @@ tallied-none ws os seen sizes z y l m =
       unseen = λ j h. z j;
       unsized = λ j h. y j;
       total = loose-zero seen sizes y;
-      seen_room = l;
-      room = m;
+      room = l;
     }
 
 module _ (ws os : List ℕ) (r : Read ws os) where
-  pub tallied-more : (seen seen' sizes : List ℕ) (i total : ℕ) → i < length os → Tallied ws os seen sizes i → Added ws (get_or os i 0) i seen seen' sizes total
-      → length seen' ≡ length seen → Tallied ws os seen' (set sizes i total) (i + 1)
-  tallied-more seen seen' sizes i total h t a l =
+  pub tallied-more : (seen seen' sizes : List ℕ) (i total : ℕ) → i < length os → Tallied ws os seen sizes i → (n : Node) → Spelt ws (get_or os i 0) n → Added n.kids.now i seen seen' sizes total
+      → length seen' ≡ 2048 → Tallied ws os seen' (set sizes i total) (i + 1)
+  tallied-more seen seen' sizes i total h t n p a l =
       let few = r.few in
       let o = get_or os i 0 in
-      let n : i < nodes ws = omega (arith, read-nodes ws os r) in
+      let m : i < nodes ws = omega (arith, read-nodes ws os r) in
+      let low : (q : ℕ) → q < kids_at ws o → kid_at ws o q < i = λ q k. subst (λ z. z < i) (p.each q k) (a.below q (omega (arith, p.count))) in
       let e : o ≡ offset ws i = read-offset ws os r i in
       let b : i < length sizes = omega (arith, t.room) in
-      let bs : i < length seen' = omega (arith, t.seen_room) in
-      let none : (x : ℕ) → i ≤ x → get_or seen' x 0 ≡ 0 = λ x k. omega (arith, a.counts x, t.unseen x k, standing-none x ws (o + 4) (kids_at ws o) i k a.below) in
+      let bs : i < length seen' = omega arith in
+      let none : (x : ℕ) → i ≤ x → get_or seen' x 0 ≡ 0 = λ x k. omega (arith, a.counts x, t.unseen x k, kids-standing ws o n p x, standing-none x ws (o + 4) (kids_at ws o) i k low) in
       let s : total ≡ size (tree_at ws i) =
-      a.sum ∙ ap (λ z. 1 + sizes_of ws (z + 4) (kids_at ws z) sizes) e ∙ size-at ws sizes i n (subst (λ z. (q : ℕ) → q < kids_at ws z → kid_at ws z q < i) e a.below) t.sized in
+      a.sum ∙ ap (λ m. 1 + m) (sym (kids-sizes ws o n p sizes)) ∙ ap (λ z. 1 + sizes_of ws (z + 4) (kids_at ws z) sizes) e ∙ size-at ws sizes i m (subst (λ z. (q : ℕ) → q < kids_at ws z → kid_at ws z q < i) e low) t.sized in
       record {
-        below = below_more _ _ t.below a.below;
-        counts = λ x. omega (arith, t.counts x, a.counts x, child-more x ws os i h);
+        below = below_more _ _ t.below low;
+        counts = λ x. omega (arith, t.counts x, a.counts x, kids-standing ws o n p x, child-more x ws os i h);
         flags = a.flags;
         sized = below_more _ _ (λ j k. let d : j ≢ i = omega arith in get_or-set_other sizes i j total 0 d ∙ t.sized j k) (get_or-set_same sizes i total 0 b ∙ s);
         small = λ j. ⊎_elim
@@ -90,29 +91,29 @@ module _ (ws os : List ℕ) (r : Read ws os) where
         unseen = λ j k. none j (omega arith);
         unsized = λ j k. let d : j ≢ i = omega arith in get_or-set_other sizes i j total 0 d ∙ t.unsized j (omega arith);
         total = omega (arith, a.rest, t.total, loose-sized seen' sizes i total bs b (none i (omega arith)) (t.unsized i (omega arith)));
-        seen_room = l ∙ t.seen_room;
         room = length-set sizes i total ∙ t.room;
       }
 
   -- how often a node is a child in the end
-  pub tallied-child : (seen sizes : List ℕ) (i x : ℕ) → length os ≤ i → Tallied ws os seen sizes i → child_of x ws (offsets ws) ≡ get_or seen x 0
+  tallied-child : (seen sizes : List ℕ) (i x : ℕ) → length os ≤ i → Tallied ws os seen sizes i → child_of x ws (offsets ws) ≡ get_or seen x 0
   tallied-child seen sizes i x h t =
       let e : child_of x ws os ≡ child_of x ws (offsets ws) = ap (child_of x ws) r.places in
       omega (arith, t.counts x, child-end x ws os i h)
 
-  pub tallied-clash : (seen sizes : List ℕ) (i : ℕ) → i < length os → Tallied ws os seen sizes i → Clash ws (get_or os i 0) i seen → Treelike ws → ⊥
-  tallied-clash seen sizes i h t (high q l g) w =
+  pub tallied-clash : (seen sizes : List ℕ) (i : ℕ) → i < length os → Tallied ws os seen sizes i → (n : Node) → Spelt ws (get_or os i 0) n → Clash n.kids.now i seen → Treelike ws → ⊥
+  tallied-clash seen sizes i h t n p (high q l g) w =
       let e : get_or os i 0 ≡ offset ws i = read-offset ws os r i in
-      let n : i < nodes ws = omega (arith, read-nodes ws os r) in
-      let l' : q < kids_at ws (offset ws i) = subst (λ z. q < kids_at ws z) e l in
-      let g' : i ≤ kid_at ws (offset ws i) q = subst (λ z. i ≤ kid_at ws z q) e g in
-      omega (arith, w.below i q n l')
-  tallied-clash seen sizes i h t (twice x l g) w =
-      let n : x + 1 < nodes ws = omega (arith, read-nodes ws os r) in
+      let m : i < nodes ws = omega (arith, read-nodes ws os r) in
+      let k : q < kids_at ws (get_or os i 0) = omega (arith, p.count) in
+      let l' : q < kids_at ws (offset ws i) = subst (λ z. q < kids_at ws z) e k in
+      let g' : i ≤ kid_at ws (offset ws i) q = subst (λ z. i ≤ kid_at ws z q) e (subst (λ z. i ≤ z) (p.each q k) g) in
+      omega (arith, w.below i q m l')
+  tallied-clash seen sizes i h t n p (twice x l g) w =
+      let m : x + 1 < nodes ws = omega (arith, read-nodes ws os r) in
       let e : child_of x ws os ≡ child_of x ws (offsets ws) = ap (child_of x ws) r.places in
-      omega (arith, w.once x n, t.counts x, child-more x ws os i h)
+      omega (arith, w.once x m, t.counts x, kids-standing ws (get_or os i 0) n p x, child-more x ws os i h)
 
-  pub tallied-all : (seen sizes : List ℕ) (i : ℕ) → i ≡ length os → ((x : ℕ) → x < length os - 1 → get_or seen x 0 ≢ 0) → Tallied ws os seen sizes i → Treelike ws × Sized ws sizes
+  pub tallied-all : (seen sizes : List ℕ) (i : ℕ) → length os ≤ i → ((x : ℕ) → x < length os - 1 → get_or seen x 0 ≢ 0) → Tallied ws os seen sizes i → Treelike ws × Sized ws sizes
   tallied-all seen sizes i e s t =
       let m = read-nodes ws os r in (
         record {
@@ -122,15 +123,13 @@ module _ (ws os : List ℕ) (r : Read ws os) where
           once = λ x h.
               let b : x < length os - 1 = omega arith in
               let ne = s x b in
-              let g : length os ≤ i = omega arith in
-              omega (arith, t.flags x, tallied-child seen sizes i x g t);
+              omega (arith, t.flags x, tallied-child seen sizes i x e t);
         },
-        record { each = λ j h. t.sized j (omega arith); small = λ j h. t.small j; room = t.room },
+        record { each = λ j h. t.sized j (omega arith); small = λ j h. t.small j },
       )
 
-  pub tallied-missing : (seen sizes : List ℕ) (i x : ℕ) → i ≡ length os → x < length os - 1 → get_or seen x 0 ≡ 0 → Tallied ws os seen sizes i → Treelike ws → ⊥
+  pub tallied-missing : (seen sizes : List ℕ) (i x : ℕ) → length os ≤ i → x < length os - 1 → get_or seen x 0 ≡ 0 → Tallied ws os seen sizes i → Treelike ws → ⊥
   tallied-missing seen sizes i x e h z t w =
       let m = read-nodes ws os r in
-      let g : length os ≤ i = omega arith in
       let b : x + 1 < nodes ws = omega arith in
-      omega (arith, w.once x b, tallied-child seen sizes i x g t)
+      omega (arith, w.once x b, tallied-child seen sizes i x e t)

@@ -2,6 +2,7 @@
 use Rattle.std.specs.Prelude.{◌≡◌, ℕ, ◌+◌, ◌-◌, ◌<◌, ◌≤◌, Bool, true, false, ◌||◌, List, length, Some, None, Option, ◌==◌, slice_index}
 use Rattle.rule.specs.declared.fault.Fault.{Fault}
 use Rattle.rule.specs.declared.fault.Fault.TheVariants.{TooLong, CutShort, OutsideRow, NotATree, WrongClass, BadScope, SameAsNothing}
+use Rattle.rule.specs.declared.nodes.Node.{Node}
 use Rattle.rule.specs.declared.nodes.Nodes.{Nodes}
 use Rattle.rule.specs.declared.rows.Class.{Class}
 use Rattle.rule.specs.declared.rows.Class.TheVariants.{Absent}
@@ -58,6 +59,14 @@ pub record KidsFit (ws : List ℕ) (o : ℕ) (r : Row) : Type 0 where
 -- the children of node i fit its row
 abbrev pub KidsPass : List ℕ → ℕ → Type 0
 KidsPass ws i = (r : Row) → row_at ws (offset ws i) ≡ Some r → KidsFit ws (offset ws i) r
+
+-- the same of a node by itself: its children fit its row
+pub record KidsFitRow (ws : List ℕ) (n : Node) (r : Row) : Type 0 where
+  pub count : enough r (length n.kids.now) ≡ true
+  pub each : (q : ℕ) → q < length n.kids.now → admitted (place_of r (length n.kids.now) q) (class_at ws (slice_index n.kids.now q)) ≡ true
+
+abbrev pub FitsItsRow : List ℕ → Node → Type 0
+FitsItsRow ws n = (r : Row) → row_of n.code n.v n.w ≡ Some r → KidsFitRow ws n r
 
 -- 5: children and root are of the rows' classes and counts
 pub record Classed (ws : List ℕ) : Type 0 where

@@ -39,6 +39,7 @@ impl Fault {
     }
 
     // The ground in plain words.
+    // Kept: a call of its own beside Display: it is published, its text is what is proved, and Display prints it.
     pub fn ground(self) -> &'static str
         ensures { result.now ≡ ground_of self }
     {

@@ -35,11 +35,8 @@ fn check_comparable(rule: Rule) -> Result<(), Fault>
     ensures ok { OnOk result (Comparable rule.entry.words.now) }
     ensures err { IfErr result (λ f. (f ≡ Fault.SameAsNothing) × (Comparable rule.entry.words.now → ⊥)) }
 {
-    // Kept: a node's number is what is tested here, and its children name it by that.
-    for i in 0..rule.at.len() {
-        if is_barred(rule.known_node(i).code) {
-            return Err(Fault::SameAsNothing);
-        }
+    if rule.nodes().any(|node| is_barred(node.code)) {
+        return Err(Fault::SameAsNothing);
     }
     Ok(())
 }

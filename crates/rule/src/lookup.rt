@@ -80,7 +80,7 @@ impl Row {
     fn kids_behind(self) -> usize
         ensures { result ≡ behind self }
     {
-        if self.last.is_some() { 1 } else { 0 }
+        usize::from(self.last.is_some())
     }
 
     // A node of this row may have `n` children.
@@ -112,10 +112,8 @@ impl Row {
         requires { q < n }
         ensures { result ≡ admitted (place_of self n q) kid }
     {
-        match self.place_of(n, q) {
-            Some(place) => place.admits_kid(kid),
-            None => false,
-        }
+        self.place_of(n, q)
+            .is_some_and(|place| place.admits_kid(kid))
     }
 }
 
@@ -124,10 +122,8 @@ pub fn row_of(code: u32, v: u32, w: u32) -> Option<Row>
     ensures { result ≡ row_of code v w }
 {
     let first = *firsts().get(code as usize)? as usize;
-    for row in &rows()[first..first + 3] {
-        if row.is_for(code, v, w) {
-            return Some(*row);
-        }
-    }
-    None
+    rows()[first..first + 3]
+        .iter()
+        .find(|row| row.is_for(code, v, w))
+        .copied()
 }

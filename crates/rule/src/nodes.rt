@@ -1,7 +1,6 @@
-ghost use Rattle.std.specs.Prelude.{◌≡◌, ℕ, ◌+◌, ◌<◌, ◌≤◌, ◌↔◌, length, slice_index, IfSome, IsNone, IfOk, IfErr};
+ghost use Rattle.std.specs.Prelude.{◌≡◌, ℕ, ◌+◌, ◌-◌, ◌<◌, ◌≤◌, ◌↔◌, length, slice_index, IfSome, IsNone, IfOk, IfErr};
 ghost use Rattle.rule.specs.Faults.{number_of};
 ghost use Rattle.rule.specs.Intake.{Read, Refused};
-ghost use Rattle.rule.specs.Nodes.{Spelt};
 
 use crate::codes::{BINARY, BLOCK, PATH};
 use crate::comparison::Comparison;
@@ -75,6 +74,18 @@ pub struct Rule<'w, 'p> {
 }
 
 impl<'w, 'p> Rule<'w, 'p> {
+    ghost use Rattle.rule.specs.Nodes.{Spelt, from_the_first};
+
+    /// The nodes, in the order of their numbers.
+    pub fn nodes(self) -> NodeIter<'w, 'p>
+        ensures { result ≡ from_the_first self.entry }
+    {
+        NodeIter {
+            rule: self,
+            next: 0,
+        }
+    }
+
     /// Node `i`, if there is one.
     pub fn node(self, i: usize) -> Option<Node<'w>>
         ensures some { IfSome result (λ n. Spelt self.entry.words.now (slice_index self.entry.at.now i) n) }
@@ -109,6 +120,30 @@ impl<'w, 'p> Rule<'w, 'p> {
         ensures { result + 1 ≡ length self.entry.at.now }
     {
         self.at.len() - 1
+    }
+}
+
+/// The nodes of a rule that come from some number on.
+#[derive(Clone, Copy)]
+pub struct NodeIter<'w, 'p> {
+    rule: Rule<'w, 'p>,
+    next: usize,
+}
+
+impl<'w, 'p> Iterator for NodeIter<'w, 'p> {
+    ghost use Rattle.std.specs.Iterator.{at_most};
+    ghost use Rattle.rule.specs.Nodes.{NextNode};
+
+    type Item = Node<'w>;
+
+    ghost next_gives = { NextNode };
+
+    ghost remaining = { λ s. at_most (length s.rule.at.now - s.next) };
+
+    fn next(&mut self) -> Option<Node<'w>> {
+        let node = self.rule.node(self.next)?;
+        self.next += 1;
+        Some(node)
     }
 }
 

@@ -1,14 +1,16 @@
-ghost use Rattle.std.specs.Prelude.{◌≡◌, ℕ, ◌+◌, ◌<◌, ◌≤◌, length, OnOk, IfErr};
+ghost use Rattle.std.specs.Prelude.{◌≡◌, ℕ, ◌+◌, ◌<◌, ◌≤◌, ◌==◌, length, OnOk, IfErr};
 ghost use Rattle.rule.specs.Trees.{tree_at};
-ghost use Rattle.rule.specs.Scopes.{role, compares};
-ghost use Rattle.rule.specs.Marks.{size, steps, end_of, ends, at_declaration, at_use, note, note_all, Says};
+ghost use Rattle.rule.specs.Scopes.{role};
+ghost use Rattle.rule.specs.Marks.{size, steps, end, end_of, ends, at_declaration, at_use, note, note_all, Says};
 ghost use Rattle.rule.specs.Intake.{Scoped};
 
-use crate::codes::{BINARY, BINDING, PATH};
-use crate::comparison::Comparison;
+use crate::codes::BINDING;
 use crate::fault::Fault;
 use crate::nodes::Node;
 use crate::tree::RuleTree;
+
+// Every local is below this.
+const MOST_LOCALS: usize = 1024;
 
 // What the walk has met of a local.
 #[derive(Clone, Copy)]
@@ -20,10 +22,12 @@ pub(crate) enum Mark {
     UsableTo(u16),
 }
 
-fn is_comparison(node: Node) -> bool
-    ensures { result ≡ compares node.entry.code node.entry.v }
-{
-    node.code == BINARY && Comparison::of(node.v).is_some()
+impl Mark {
+    fn is_unmet(self) -> bool
+        ensures { result ≡ (end self == 0) }
+    {
+        matches!(self, Mark::Unmet)
+    }
 }
 
 // Where the innermost operand around a child ends: with the child, if it is one itself.
@@ -34,27 +38,25 @@ fn operand_end(fork: bool, end: usize, until: usize) -> usize
 }
 
 // A local declared; it may be used before the place `until`.
-fn declare(local: u32, until: usize, marks: &mut [Mark]) -> Result<(), Fault>
-    requires room { length marks.old ≡ 1024 }
+#[tactic(auto, unfolding(crate::specs::Marks::at_declaration))]
+fn declare(local: u32, until: usize, marks: &mut [Mark; MOST_LOCALS]) -> Result<(), Fault>
     requires some { 0 < until }
     requires few { until ≤ 2048 }
     ensures { Says result (ends marks.new) (at_declaration local until (ends marks.old)) }
 {
     match marks.get(local as usize) {
-        Some(Mark::Unmet) => {
+        Some(mark) if mark.is_unmet() => {
             marks[local as usize] = Mark::UsableTo((until - 1) as u16);
             Ok(())
         }
-        Some(Mark::Free) => Err(Fault::BadScope),
-        Some(Mark::UsableTo(_)) => Err(Fault::BadScope),
-        None => Err(Fault::BadScope),
+        _ => Err(Fault::BadScope),
     }
 }
 
 // A local used at `place`.
-fn use_local(local: u32, place: usize, marks: &mut [Mark]) -> Result<(), Fault>
-    requires room { length marks.old ≡ 1024 }
-    requires few { place ≤ 2048 }
+#[tactic(auto, unfolding(crate::specs::Marks::at_use))]
+fn use_local(local: u32, place: usize, marks: &mut [Mark; MOST_LOCALS]) -> Result<(), Fault>
+    requires { place ≤ 2048 }
     ensures { Says result (ends marks.new) (at_use place local (ends marks.old)) }
 {
     match marks.get(local as usize) {
@@ -63,20 +65,18 @@ fn use_local(local: u32, place: usize, marks: &mut [Mark]) -> Result<(), Fault>
             Ok(())
         }
         Some(Mark::Free) => Ok(()),
-        Some(Mark::UsableTo(last)) => {
-            if place <= *last as usize {
-                Ok(())
-            } else {
-                Err(Fault::BadScope)
-            }
-        }
-        None => Err(Fault::BadScope),
+        Some(Mark::UsableTo(last)) if place <= *last as usize => Ok(()),
+        _ => Err(Fault::BadScope),
     }
 }
 
 // What a node does with a local: a binding declares one, a path to a local uses one.
-fn note_node(node: Node, place: usize, until: usize, marks: &mut [Mark]) -> Result<(), Fault>
-    requires room { length marks.old ≡ 1024 }
+fn note_node(
+    node: Node,
+    place: usize,
+    until: usize,
+    marks: &mut [Mark; MOST_LOCALS],
+) -> Result<(), Fault>
     requires before { place < until }
     requires few { until ≤ 2048 }
     ensures { Says result (ends marks.new) (note place (role node.entry.code node.entry.v node.entry.w) until (ends marks.old)) }
@@ -84,11 +84,10 @@ fn note_node(node: Node, place: usize, until: usize, marks: &mut [Mark]) -> Resu
     if node.code == BINDING {
         return declare(node.v, until, marks);
     }
-    // Kept: v is a word of the format, of which this code asks the first number alone.
-    if node.code == PATH && node.v == 0 {
-        return use_local(node.w, place, marks);
+    match node.local() {
+        Some(local) => use_local(local, place, marks),
+        None => Ok(()),
     }
-    Ok(())
 }
 
 // The walk of node `i`, the children in row order and then the node, from `place` on, in an operand that ends at `until`.
@@ -97,16 +96,15 @@ fn walk_scopes(
     i: usize,
     place: usize,
     until: usize,
-    marks: &mut [Mark],
+    marks: &mut [Mark; MOST_LOCALS],
 ) -> Result<(), Fault>
     requires inside { i < length tree.rule.at.now }
     requires fits { place + size (tree_at tree.rule.words.now i) ≤ until }
     requires few { until ≤ 2048 }
-    requires room { length marks.old ≡ 1024 }
     ensures { Says result (ends marks.new) (note_all place (steps place until (tree_at tree.entry.rule.words.now i)) (ends marks.old)) }
 {
     let node = tree.rule.known_node(i);
-    let fork = is_comparison(node);
+    let fork = node.comparison().is_some();
     let mut at = place;
     for kid in node.kids {
         let kid = *kid as usize;
@@ -124,7 +122,7 @@ pub(crate) fn check_scopes(tree: RuleTree) -> Result<(), Fault>
     ensures err { IfErr result (λ f. (f ≡ Fault.BadScope) × (Scoped tree.entry.rule.words.now → ⊥)) }
 {
     // Kept: an array with a place for each local, since this crate uses no heap.
-    let mut marks = [Mark::Unmet; 1024];
+    let mut marks = [Mark::Unmet; MOST_LOCALS];
     let root = tree.rule.root();
     walk_scopes(tree, root, 0, tree.sizes[root] as usize, &mut marks)
 }

@@ -1,30 +1,33 @@
-ghost use Rattle.std.specs.Prelude.{◌≡◌, ℕ, ◌<◌, ◌≤◌, length, IfOk, IfErr, slice_index};
+ghost use Rattle.std.specs.Prelude.{◌≡◌, ◌<◌, ◌≤◌, IfOk, IfErr};
 ghost use Rattle.rule.specs.Intake.{Treelike};
 ghost use Rattle.rule.specs.Tally.{Added, Clash, Sized, flags, loose};
 
 use crate::fault::Fault;
-use crate::nodes::{MOST_NODES, Rule};
+use crate::nodes::{MOST_NODES, Node, Rule};
 
 /// A rule whose nodes make a tree, and how many nodes the tree of each node has.
 #[derive(Clone, Copy)]
 pub(crate) struct RuleTree<'w, 'p, 's> {
     pub rule: Rule<'w, 'p>,
-    pub sizes: &'s [u16],
+    pub sizes: &'s [u16; MOST_NODES],
     ghost treelike: { Treelike rule.words.now },
     ghost sized: { Sized rule.words.now sizes.now },
 }
 
 // Counts the children of node `i` as seen, and answers how many nodes its tree has.
-fn add_kids(rule: Rule, i: usize, seen: &mut [bool], sizes: &[u16]) -> Result<usize, Fault>
-    requires inside { i < length rule.at.now }
-    requires seen_room { length seen.old ≡ 2048 }
-    requires sizes_room { length sizes.now ≡ 2048 }
+fn add_kids(
+    node: Node,
+    i: usize,
+    seen: &mut [bool; MOST_NODES],
+    sizes: &[u16; MOST_NODES],
+) -> Result<usize, Fault>
+    requires inside { i < 2048 }
     requires few { loose (flags seen.old) sizes.now ≤ 2048 }
-    ensures ok { IfOk result (λ total. Added rule.entry.words.now (slice_index rule.entry.at.now i) i (flags seen.old) (flags seen.new) sizes.now total) }
-    ensures err { IfErr result (λ f. (f ≡ Fault.NotATree) × Clash rule.entry.words.now (slice_index rule.entry.at.now i) i (flags seen.old)) }
+    ensures ok { IfOk result (λ total. Added node.entry.kids.now i (flags seen.old) (flags seen.new) sizes.now total) }
+    ensures err { IfErr result (λ f. (f ≡ Fault.NotATree) × Clash node.entry.kids.now i (flags seen.old)) }
 {
     let mut total = 1;
-    for kid in rule.known_node(i).kids {
+    for kid in node.kids {
         let kid = *kid as usize;
         if kid >= i || seen[kid] {
             return Err(Fault::NotATree);
@@ -43,9 +46,8 @@ pub(crate) fn check_tree(rule: Rule) -> Result<[u16; 2048], Fault>
     // Kept: arrays of the longest rule's length, since this crate uses no heap.
     let mut seen = [false; MOST_NODES];
     let mut sizes = [0u16; MOST_NODES];
-    // Kept: a node's number is what is tested here, and its children name it by that.
-    for i in 0..rule.at.len() {
-        let total = add_kids(rule, i, &mut seen, &sizes)?;
+    for (i, node) in rule.nodes().enumerate() {
+        let total = add_kids(node, i, &mut seen, &sizes)?;
         sizes[i] = total as u16;
     }
     if seen[0..rule.root()].contains(&false) {

@@ -1,32 +1,19 @@
 use Rattle.std.proofs.Common.{◌≡◌, ◌+◌, ◌-◌, refl, arith}
 use Rattle.std.proofs.lemmas.Bool.Decides.{nat_tests}
-use Rattle.rule.specs.declared.scopes.Mark.TheVariants.{Unmet, Free, UsableTo}
+use Rattle.rule.specs.declared.scopes.Mark.TheVariants.{Unmet, UsableTo}
 use Rattle.rule.specs.Marks.{at_declaration}
-use Rattle.rule.proofs.Marking.{mark-is, ends-set}
+use Rattle.rule.proofs.Marking.{end-at, ends-set}
 use Rattle.rule.proofs.scopes.declare.Goals as goal
 
-pub returns-in-Some-Unmet : goal.returns-in-Some-Unmet
+pub returns-in-Some : goal.returns-in-Some
 unfolding at_declaration
-returns-in-Some-Unmet c =
-    let l = c.in-Some-Unmet.ensures.lookup.3 in
-    let e = mark-is c.args.marks.now c.args.local _ Unmet (l.1 Unmet) c.in-Some-Unmet.field-0-is in
+returns-in-Some c =
+    let l = c.in-Some.ensures.lookup.3 in
     let u : c.args.until - 1 + 1 ≡ c.args.until = omega (arith, c.requires.some) in
-    rw (ends-set c.args.marks.now c.args.local (UsableTo (c.args.until - 1)), u) (grind (arith, nat_tests, l.0))
+    rw (ends-set c.args.marks.now c.args.local (UsableTo (c.args.until - 1)), u) (grind (arith, nat_tests, l.0, end-at c.args.marks.now c.args.local, l.1 Unmet))
 
-pub returns-in-Some-Free : goal.returns-in-Some-Free
+pub returns-in_default : goal.returns-in_default
 unfolding at_declaration
-returns-in-Some-Free c =
-    let l = c.in-Some-Free.ensures.lookup.3 in
-    let e = mark-is c.args.marks.now c.args.local _ Free (l.1 Unmet) c.in-Some-Free.field-0-is in
-    (refl, grind (arith, nat_tests, l.0))
-
-pub returns-in-Some-UsableTo : goal.returns-in-Some-UsableTo
-unfolding at_declaration
-returns-in-Some-UsableTo c =
-    let l = c.in-Some-UsableTo.ensures.lookup.3 in
-    let e = mark-is c.args.marks.now c.args.local _ (UsableTo c.in-Some-UsableTo.field-0-0) (l.1 Unmet) c.in-Some-UsableTo.field-0-is in
-    (refl, grind (arith, nat_tests, l.0))
-
-pub returns-in-None : goal.returns-in-None
-unfolding at_declaration
-returns-in-None c = (refl, grind (arith, nat_tests, c.in-None.ensures.lookup.3))
+returns-in_default c =
+    let l = c.in-Some.ensures.lookup.3 in
+    (refl, grind (arith, nat_tests, l.0, end-at c.args.marks.now c.args.local, l.1 Unmet))

@@ -19,20 +19,16 @@ returns-in-Some-Free c =
     let e = mark-is c.args.marks.now c.args.local _ Free (l.1 Unmet) c.in-Some-Free.field-0-is in
     grind (arith, nat_tests, l.0)
 
-pub returns-then-place-last : goal.returns-then-place-last
+pub returns-in-Some-UsableTo : goal.returns-in-Some-UsableTo
 unfolding at_use
-returns-then-place-last c =
+returns-in-Some-UsableTo c =
     let l = c.in-Some-UsableTo.ensures.lookup.3 in
     let e = mark-is c.args.marks.now c.args.local _ (UsableTo _) (l.1 Unmet) c.in-Some-UsableTo.field-0-is in
     grind (arith, nat_tests, l.0, c.in-Some-UsableTo.last-is)
 
-pub returns-else-place-last : goal.returns-else-place-last
+pub returns-in_default : goal.returns-in_default
 unfolding at_use
-returns-else-place-last c =
+returns-in_default c =
     let l = c.in-Some-UsableTo.ensures.lookup.3 in
     let e = mark-is c.args.marks.now c.args.local _ (UsableTo _) (l.1 Unmet) c.in-Some-UsableTo.field-0-is in
     (refl, grind (arith, nat_tests, l.0, c.in-Some-UsableTo.last-is))
-
-pub returns-in-None : goal.returns-in-None
-unfolding at_use
-returns-in-None c = (refl, grind (arith, nat_tests, c.in-None.ensures.lookup.3))
