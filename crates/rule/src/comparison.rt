@@ -5,12 +5,12 @@ ghost use Rattle.rule.specs.Comparisons.{comparison_of, comparison_number, rever
 /// A comparison. In a rule's words a number stands for it, v of a binary expression.
 #[derive(Clone, Copy, Debug, PartialEq, Eq)]
 pub enum Comparison {
-    Eq,
-    Lt,
-    Le,
-    Ne,
-    Ge,
-    Gt,
+    Eq = 12,
+    Lt = 13,
+    Le = 14,
+    Ne = 15,
+    Ge = 16,
+    Gt = 17,
 }
 
 impl Comparison {
@@ -33,14 +33,7 @@ impl Comparison {
     pub fn number(self) -> u32
         ensures { result ≡ comparison_number self }
     {
-        match self {
-            Comparison::Eq => 12,
-            Comparison::Lt => 13,
-            Comparison::Le => 14,
-            Comparison::Ne => 15,
-            Comparison::Ge => 16,
-            Comparison::Gt => 17,
-        }
+        self as u32
     }
 
     /// The comparison that says the same of exchanged operands.

@@ -7,35 +7,27 @@ use std::fmt;
 #[derive(Clone, Copy, Debug, PartialEq, Eq)]
 pub enum Fault {
     // longer than 8,192 words
-    TooLong,
+    TooLong = 1,
     // empty, or ends inside a node
-    CutShort,
+    CutShort = 2,
     // a code without a row, or a word outside its row
-    OutsideRow,
+    OutsideRow = 3,
     // a child number not below its node's, or a node before the last that is not a child exactly once
-    NotATree,
+    NotATree = 4,
     // children or root not of the row's classes or count
-    WrongClass,
+    WrongClass = 5,
     // a local above 1,023, declared twice, used earlier in the walk than declared,
     // or declared under one operand of a comparison and used outside that operand
-    BadScope,
+    BadScope = 6,
     // a code that is the same as nothing
-    SameAsNothing,
+    SameAsNothing = 7,
 }
 
 impl Fault {
     pub fn number(self) -> u8
         ensures { result ≡ number_of self }
     {
-        match self {
-            Fault::TooLong => 1,
-            Fault::CutShort => 2,
-            Fault::OutsideRow => 3,
-            Fault::NotATree => 4,
-            Fault::WrongClass => 5,
-            Fault::BadScope => 6,
-            Fault::SameAsNothing => 7,
-        }
+        self as u8
     }
 
     // The ground in plain words.
