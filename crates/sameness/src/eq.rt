@@ -1,32 +1,25 @@
 // Two rules compared node by node, the children before their node. The pair table has the partners of the locals that
 // were declared so far; what a failed reading added to it is put back.
 ghost use Rattle.std.specs.Prelude.{◌≡◌, ℕ, ◌+◌, ◌<◌, ◌≤◌, length};
-ghost use Rattle.trial.specs.Table.{unpaired};
 ghost use Rattle.sameness.specs.Deciding.{matched, Table};
 ghost use Rattle.sameness.specs.Sides.{BranchesWalked, SidesWalked, ChildrenWalked, PairsWalked, DirectFails};
 ghost use Rattle.sameness.specs.Walking.{Pictured, Not};
 
 use crate::kind::{Branch, Side};
 use crate::words::{eq_words, is_reversed};
-use rule::codes::{BINARY, BINDING, BLOCK, PATH};
+use rule::codes::{BINARY, BINDING, BLOCK};
 use trial::guard::{Before, Trial};
 use trial::pairs::{paired, record, unpaired};
 
-// Neither local has a partner: only then do their numbers count.
-fn are_free(t: &[u32], x: u32, y: u32) -> bool
-    ensures { result ≡ unpaired t.now x y }
-{
-    unpaired(t, x, y)
-}
-
 // A used local of the first rule and one of the second: partners, or both without one and the same.
+#[tactic(auto, using(crate::proofs::Walks::matched_free, crate::proofs::Walks::matched_paired))]
 fn eq_locals(t: &[u32], x: u32, y: u32) -> bool
     requires room { length t.now ≡ 2048 }
     requires first { x < 1024 }
     requires second { y < 1024 }
     ensures { (P : Table) → Pictured P t.now → result ≡ matched P x y }
 {
-    if are_free(t, x, y) {
+    if unpaired(t, x, y) {
         return x == y;
     }
     paired(t, x, y)
@@ -154,11 +147,10 @@ fn eq_qpath(t: &mut [u32], l: Side, r: Side) -> bool
     if !over(t, l, r) {
         return false;
     }
-    // Kept: v is a word of the format, of which this code asks the first number alone.
-    if l.node.code == PATH && l.node.v == 0 {
-        return eq_locals(t, l.node.w, r.node.w);
+    match (l.node.local(), r.node.local()) {
+        (Some(x), Some(y)) => eq_locals(t, x, y),
+        _ => true,
     }
-    true
 }
 
 // Blocks: the statements, and then the tail.

@@ -8,7 +8,7 @@ ghost use Rattle.sameness.specs.Reduction.{reduce};
 ghost use Rattle.sameness.specs.Sameness.{pair};
 ghost use Rattle.sameness.specs.Walking.{Held, Low, tree_in};
 
-use rule::codes::{ABSENT, BLOCK, BLOCK_EXPR, EXPR_STMT, RETURN, SEMI_STMT, TUPLE};
+use rule::codes::{ABSENT, BLOCK_EXPR, EXPR_STMT, RETURN, SEMI_STMT, TUPLE};
 use rule::nodes::{Node, Rule};
 
 // Node `number` of a rule whose nodes form a tree, with all that is below it. No local in it is above 1023.
@@ -115,8 +115,7 @@ impl<'w, 'p> Branch<'w, 'p> {
             branch: self,
             node: self.node(),
         };
-        // Kept: v is a word of the format, of which this code asks the first number alone.
-        if block.node.code != BLOCK || block.node.v != 0 {
+        if !block.node.is_plain_block() {
             return None;
         }
         match block.node.kids.len() {

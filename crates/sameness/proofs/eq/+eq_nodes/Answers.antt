@@ -1,9 +1,9 @@
-use Rattle.std.proofs.Common.{rules, ◌≡◌, true, min, ◌⊎◌, length, get_or, sym, refl, ◌∙◌, subst, ap₂, inl, inr, ⊎_elim, arith, length-append}
+use Rattle.std.proofs.Common.{rules, ◌≡◌, true, min, ◌⊎◌, length, get_or, sym, refl, ◌∙◌, subst, ap₂, inl, inr, arith, length-append}
 use Rattle.std.proofs.lemmas.Slice.Zip.{zip_turn, zip_end}
 use Rattle.rule.specs.Trees.{tree_at}
 use Rattle.sameness.proofs.Overs.{going_more, going-fails, going-all, over-unequal, first_holds, not-exchanged, few-operands, exchanged, both-then, both-same}
 use Rattle.sameness.specs.Walking.{Low, KindsWalked}
-use Rattle.sameness.proofs.Asking.{binding-low, local-low, nodes-named}
+use Rattle.sameness.proofs.Asking.{no-local, second-local, binding-low, local-low, nodes-named}
 use Rattle.sameness.proofs.Walks.{kinds-unequal, kinds-other, kinds-fail, kinds-plain, kinds-by, kinds-bound, kinds-taken, kinds-local}
 use Rattle.sameness.proofs.eq.+eq_nodes.Goals as goal
 use Rattle.sameness.proofs.eq.+eq_nodes.Goals.{eq_reversed-then-l-ne2-via-then-l-ne2, eq_reversed-then-l-ne2-via-else-l-ne2+then-r-ne2}
@@ -31,13 +31,13 @@ eq_pat-returns-then-l-ne-BINDING t c =
 pub eq_pat-returns-then-not-unpaired : goal.eq_pat-returns-then-not-unpaired
 eq_pat-returns-then-not-unpaired t c =
     let d = sym c.if-not-eq_words.ensures in
-    let k = binding-low _ _ _ _ _ _ c.args.l.held c.args.r.held d c.if-l-ne-BINDING.false in
+    let k = binding-low c.args.l.node c.args.r.node d _ _ _ _ c.args.l.held c.args.r.held c.if-l-ne-BINDING.false in
     kinds-taken _ c.args.l.node _ c.args.r.node _ _ c.if-l-ne-BINDING.false d (c.over.auto.t ∙ c.requires.room) k.0 k.1 (sym c.if-not-unpaired.ensures) c.if-not-over.ensures
 
 pub eq_pat-returns : goal.eq_pat-returns
 eq_pat-returns t c =
     let d = sym c.if-not-eq_words.ensures in
-    let k = binding-low _ _ _ _ _ _ c.args.l.held c.args.r.held d c.if-l-ne-BINDING.false in
+    let k = binding-low c.args.l.node c.args.r.node d _ _ _ _ c.args.l.held c.args.r.held c.if-l-ne-BINDING.false in
     subst (λ z. KindsWalked c.args.l.branch.words.now c.args.l.node c.args.r.branch.words.now c.args.r.node c.args.t.now z true) (sym c.record.ensures)
     (kinds-bound _ c.args.l.node _ c.args.r.node _ _ c.if-l-ne-BINDING.false d (c.over.auto.t ∙ c.requires.room) k.0 k.1 (sym c.if-not-unpaired.ensures) c.if-not-over.ensures)
 
@@ -49,16 +49,25 @@ eq_qpath-returns-then-not-over t c = kinds-fail _ c.args.l.node _ c.args.r.node 
 
 pub eq_qpath-eq_locals-requires : goal.eq_qpath-eq_locals-requires
 eq_qpath-eq_locals-requires t c =
-    let k = local-low _ _ _ _ _ _ c.args.l.held c.args.r.held (sym c.if-not-eq_words.ensures) c.if-l-eq-PATH.true c.if-l-eq0.true in
-    record { room = c.over.auto.t ∙ c.requires.room; first = k.0; second = k.1 }
+    record {
+      room = c.over.auto.t ∙ c.requires.room;
+      first = local-low _ c.args.l.node _ _ c.args.l.held (sym c.local.ensures ∙ c.in-Some-Some.is-0);
+      second = local-low _ c.args.r.node _ _ c.args.r.held (sym c.local-2.ensures ∙ c.in-Some-Some.is-1);
+    }
 
-pub eq_qpath-returns-then-l-eq0 : goal.eq_qpath-returns-then-l-eq0
-eq_qpath-returns-then-l-eq0 t c =
-    kinds-local _ c.args.l.node _ c.args.r.node _ _ _ c.if-l-eq-PATH.true c.if-l-eq0.true (sym c.if-not-eq_words.ensures) c.eq_locals.ensures c.if-not-over.ensures
+pub eq_qpath-returns-in-Some-Some : goal.eq_qpath-returns-in-Some-Some
+eq_qpath-returns-in-Some-Some t c =
+    kinds-local _ c.args.l.node _ c.args.r.node _ _ _ _ _ (sym c.local.ensures ∙ c.in-Some-Some.is-0) (sym c.local-2.ensures ∙ c.in-Some-Some.is-1)
+    (sym c.if-not-eq_words.ensures) c.eq_locals.ensures c.if-not-over.ensures
 
-pub eq_qpath-returns : goal.eq_qpath-returns
-eq_qpath-returns t c =
-    kinds-plain _ c.args.l.node _ c.args.r.node _ _ c.requires.not_binary c.requires.not_binding (λ e. ⊎_elim (λ k. k.1 e.1) (λ k. k e.0) c.else-l-eq-PATH.either) (sym c.if-not-eq_words.ensures) c.if-not-over.ensures
+pub eq_qpath-returns-in_default : goal.eq_qpath-returns-in_default
+eq_qpath-returns-in_default t c =
+    let d = sym c.if-not-eq_words.ensures in
+    kinds-plain _ c.args.l.node _ c.args.r.node _ _ c.requires.not_binary c.requires.not_binding (second-local c.args.l.node c.args.r.node d (sym c.local-2.ensures ∙ c.in_default.is-1)) d c.if-not-over.ensures
+
+pub eq_qpath-returns-in_default-2 : goal.eq_qpath-returns-in_default-2
+eq_qpath-returns-in_default-2 t c =
+    kinds-plain _ c.args.l.node _ c.args.r.node _ _ c.requires.not_binary c.requires.not_binding (no-local c.args.l.node (sym c.local.ensures ∙ c.in_default.is-0)) (sym c.if-not-eq_words.ensures) c.if-not-over.ensures
 
 pub eq_binary-returns-then-over : goal.eq_binary-returns-then-over
 eq_binary-returns-then-over t c =
