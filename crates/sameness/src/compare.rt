@@ -39,13 +39,11 @@ fn judge_rules(a: Rule, b: Rule, t: &mut [u32]) -> bool
 {
     clear(t);
     let x = Branch {
-        words: a.words,
-        at: a.at,
+        rule: a,
         number: a.root(),
     };
     let y = Branch {
-        words: b.words,
-        at: b.at,
+        rule: b,
         number: b.root(),
     };
     if eq_node(t, x, y) {

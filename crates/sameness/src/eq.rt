@@ -203,13 +203,11 @@ fn over(t: &mut [u32], l: Side, r: Side) -> bool
     }
     for (x, y) in l.node.kids.iter().zip(r.node.kids) {
         let first = Branch {
-            words: l.branch.words,
-            at: l.branch.at,
+            rule: l.branch.rule,
             number: *x as usize,
         };
         let second = Branch {
-            words: r.branch.words,
-            at: r.branch.at,
+            rule: r.branch.rule,
             number: *y as usize,
         };
         if !eq_node(t, first, second) {

@@ -1,13 +1,13 @@
 // The nodes of a rule, each reduced.
 ghost use Rattle.sameness.specs.Comparing.{Unsound};
 ghost use Rattle.sameness.specs.Reducing.{RuleReduced};
-ghost use Rattle.std.specs.Prelude.{◌≡◌, take, IfOk, IfErr};
+ghost use Rattle.std.specs.Prelude.{◌≡◌, min, length, take, IfOk, IfErr};
 
 use crate::kind::Branch;
 use rule::codes::ABSENT;
 use rule::fault::Fault;
 use rule::intake::intake;
-use rule::nodes::Node;
+use rule::nodes::{MOST_NODES, Node, Rule};
 
 // What each node comes to: the first `count` of `kinds`.
 // Kept: an array and a count, since this crate uses no heap.
@@ -19,10 +19,13 @@ pub struct Reduced<'a> {
 
 impl<'a> Reduced<'a> {
     /// What the nodes come to, in their order.
+    #[tactic(auto, using(std::proofs::lemmas::List::take_min))]
     pub fn kinds(&self) -> &[Node<'a>]
-        ensures { result.now ≡ take self.now.count self.now.kinds }
+        ensures front { result.now ≡ take self.now.count self.now.kinds }
+        ensures len { length result.now ≡ min self.now.count 2048 }
     {
-        self.kinds.get(0..self.count).unwrap_or(&self.kinds)
+        let kinds: &[Node<'a>] = &self.kinds;
+        &kinds[..self.count.min(kinds.len())]
     }
 }
 
@@ -32,7 +35,10 @@ pub fn reduce_rule<'a>(words: &'a [u32]) -> Result<Reduced<'a>, Fault>
     ensures err { IfErr result (λ f. Unsound words.now f) }
 {
     let nodes = intake(words)?;
-    let at = nodes.places();
+    let rule = Rule {
+        words,
+        at: nodes.places(),
+    };
     // Stands where there is no node.
     let none = Node {
         code: ABSENT,
@@ -40,11 +46,9 @@ pub fn reduce_rule<'a>(words: &'a [u32]) -> Result<Reduced<'a>, Fault>
         w: 0,
         kids: &words[0..0],
     };
-    let mut kinds = [none; 2048];
-    for (number, kind) in kinds.iter_mut().enumerate() {
-        if number < at.len() {
-            *kind = Branch { words, at, number }.reduce_exprkind();
-        }
+    let mut kinds = [none; MOST_NODES];
+    for (number, kind) in kinds[..rule.at.len()].iter_mut().enumerate() {
+        *kind = Branch { rule, number }.reduce_exprkind();
     }
     Ok(Reduced {
         kinds,

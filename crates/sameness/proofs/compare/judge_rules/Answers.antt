@@ -6,7 +6,6 @@ use Rattle.sameness.proofs.compare.judge_rules.Goals as goal
 pub invariant_of-x : goal.invariant_of-x
 invariant_of-x c =
     record {
-      read = c.args.a.read;
       within = omega (arith, c.root.ensures);
       treelike = c.requires.first NotATree (omega arith);
       low = last-low _ _ c.args.a.read c.requires.first _ c.root.ensures;
@@ -15,7 +14,6 @@ invariant_of-x c =
 pub invariant_of-y : goal.invariant_of-y
 invariant_of-y c =
     record {
-      read = c.args.b.read;
       within = omega (arith, c.root-2.ensures);
       treelike = c.requires.second NotATree (omega arith);
       low = last-low _ _ c.args.b.read c.requires.second _ c.root-2.ensures;

@@ -38,7 +38,7 @@ pub eq_pat-returns : goal.eq_pat-returns
 eq_pat-returns t c =
     let d = sym c.if-not-eq_words.ensures in
     let k = binding-low c.args.l.node c.args.r.node d _ _ _ _ c.args.l.held c.args.r.held c.if-l-ne-BINDING.false in
-    subst (λ z. KindsWalked c.args.l.branch.words.now c.args.l.node c.args.r.branch.words.now c.args.r.node c.args.t.now z true) (sym c.record.ensures)
+    subst (λ z. KindsWalked c.args.l.branch.rule.words.now c.args.l.node c.args.r.branch.rule.words.now c.args.r.node c.args.t.now z true) (sym c.record.ensures)
     (kinds-bound _ c.args.l.node _ c.args.r.node _ _ c.if-l-ne-BINDING.false d (c.over.auto.t ∙ c.requires.room) k.0 k.1 (sym c.if-not-unpaired.ensures) c.if-not-over.ensures)
 
 pub eq_qpath-returns-then-not-eq_words : goal.eq_qpath-returns-then-not-eq_words
@@ -71,7 +71,7 @@ eq_qpath-returns-in_default-2 t c =
 
 pub eq_binary-returns-then-over : goal.eq_binary-returns-then-over
 eq_binary-returns-then-over t c =
-    subst (λ z. KindsWalked c.args.l.branch.words.now c.args.l.node c.args.r.branch.words.now c.args.r.node c.args.t.now z true) (sym (c.drop-trial.ensures.keeps refl))
+    subst (λ z. KindsWalked c.args.l.branch.rule.words.now c.args.l.node c.args.r.branch.rule.words.now c.args.r.node c.args.t.now z true) (sym (c.drop-trial.ensures.keeps refl))
     (first_holds _ c.args.l.node _ c.args.r.node _ _ c.requires.binary (sym c.if-not-eq_words.ensures) c.if-over.ensures)
 
 pub eq_reversed-returns-then-not-is_reversed : goal.eq_reversed-returns-then-not-is_reversed
@@ -90,7 +90,7 @@ eq_reversed-returns t c =
     (ap₂ tree_at c.child-2.ensures.words c.child-2.ensures.number) (ap₂ tree_at c.child-4.ensures.words c.child-4.ensures.number) c.both.ensures)
 
 pub over-returns-then-l-r : goal.over-returns-then-l-r
-over-returns-then-l-r t c = over-unequal c.args.l.branch.words.now c.args.l.node c.args.r.branch.words.now c.args.r.node _ c.if-l-r.true
+over-returns-then-l-r t c = over-unequal c.args.l.branch.rule.words.now c.args.l.node c.args.r.branch.rule.words.now c.args.r.node _ c.if-l-r.true
 
 pub over-invariant_of-first : goal.over-invariant_of-first
 over-invariant_of-first t c =
@@ -98,10 +98,9 @@ over-invariant_of-first t c =
     let z = zip_turn c.args.l.node.kids.now c.args.r.node.kids.now c.loop-x.yielded c.into_iter-x-iterator.result c.loop-x.x-iterator c.next.new.self c.next.result (search rules) (search rules) c.loop-x.yielded_by (c.in-Some.x, c.in-Some.y) c.in-Some.is c.next.ensures.steps in
     let e : c.in-Some.x.now ≡ get_or l.node.kids.now (length c.loop-x.yielded) 0 = z.2 0 in
     record {
-      read = l.branch.read;
       within = omega (arith, e, l.held.below _ z.0, l.branch.within);
       treelike = l.branch.treelike;
-      low = subst (λ n. Low (tree_at l.branch.words.now n)) (sym e) (l.held.kids_low _ z.0);
+      low = subst (λ n. Low (tree_at l.branch.rule.words.now n)) (sym e) (l.held.kids_low _ z.0);
     }
 
 pub over-invariant_of-second : goal.over-invariant_of-second
@@ -110,10 +109,9 @@ over-invariant_of-second t c =
     let z = zip_turn c.args.l.node.kids.now c.args.r.node.kids.now c.loop-x.yielded c.into_iter-x-iterator.result c.loop-x.x-iterator c.next.new.self c.next.result (search rules) (search rules) c.loop-x.yielded_by (c.in-Some.x, c.in-Some.y) c.in-Some.is c.next.ensures.steps in
     let e : c.in-Some.y.now ≡ get_or r.node.kids.now (length c.loop-x.yielded) 0 = z.3 0 in
     record {
-      read = r.branch.read;
       within = omega (arith, e, r.held.below _ z.1, r.branch.within);
       treelike = r.branch.treelike;
-      low = subst (λ n. Low (tree_at r.branch.words.now n)) (sym e) (r.held.kids_low _ z.1);
+      low = subst (λ n. Low (tree_at r.branch.rule.words.now n)) (sym e) (r.held.kids_low _ z.1);
     }
 
 pub over-returns-then-not-eq_node : goal.over-returns-then-not-eq_node
