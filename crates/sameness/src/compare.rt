@@ -31,10 +31,9 @@ impl CompareFault {
 }
 
 // Two rules compared over a table of 2,048 words.
-fn judge_rules(a: Rule, b: Rule, t: &mut [u32]) -> bool
+fn judge_rules(a: Rule, b: Rule, t: &mut [u32; PLACES]) -> bool
     requires first { Sound a.words.now }
     requires second { Sound b.words.now }
-    requires room { length t.old ≡ 2048 }
     ensures { Judged result (tree_of a.entry.words.now) (tree_of b.entry.words.now) t.new }
 {
     clear(t);
@@ -61,9 +60,9 @@ pub fn compare(first: &[u32], second: &[u32], pairs: &mut [u32]) -> Result<bool,
 {
     let a = intake(first).map_err(CompareFault::First)?;
     let b = intake(second).map_err(CompareFault::Second)?;
-    if pairs.len() < PLACES {
+    let Some(table) = pairs.first_chunk_mut() else {
         return Err(CompareFault::PairTable);
-    }
+    };
     let l = Rule {
         words: first,
         at: a.places(),
@@ -72,5 +71,5 @@ pub fn compare(first: &[u32], second: &[u32], pairs: &mut [u32]) -> Result<bool,
         words: second,
         at: b.places(),
     };
-    Ok(judge_rules(l, r, &mut pairs[0..PLACES]))
+    Ok(judge_rules(l, r, table))
 }

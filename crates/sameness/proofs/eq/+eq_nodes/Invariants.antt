@@ -14,6 +14,9 @@ decreases-eq_binary l = 8 * l.l.branch.number + 4
 abbrev pub decreases-eq_reversed : goal.decreases-eq_reversed
 decreases-eq_reversed l = 8 * l.l.branch.number + 3
 
+abbrev pub decreases-over_words : goal.decreases-over_words
+decreases-over_words l = 8 * l.l.branch.number + 1
+
 abbrev pub decreases-over : goal.decreases-over
 decreases-over l = 8 * l.l.branch.number
 

@@ -19,7 +19,7 @@ invariant_of-block c = let s = c.args.self in record { held = kind-held _ _ s.ru
 pub returns-in-1 : goal.returns-in-1
 returns-in-1 c =
     let s = c.args.self in
-    let p = plain-words _ _ (sym c.if-not-is_plain_block.ensures) in
+    let p = plain-words c.node.result.code c.node.result.v (sym c.if-not-is_plain_block.ensures) in
     let k = c.child.result in
     let ks = c.node.result.kids.now in
     let h = kind-held _ _ s.rule.read s.treelike _ s.within _ c.node.ensures s.low in
@@ -32,7 +32,7 @@ returns-in-1 c =
 pub returns-in-2 : goal.returns-in-2
 returns-in-2 c =
     let s = c.args.self in
-    let p = plain-words _ _ (sym c.if-not-is_plain_block.ensures) in
+    let p = plain-words c.node.result.code c.node.result.v (sym c.if-not-is_plain_block.ensures) in
     let k = c.child-in-2.result in
     let m = c.child-in-2-2.result in
     let ks = c.node.result.kids.now in
@@ -47,6 +47,6 @@ returns-in-2 c =
 pub returns-in_default : goal.returns-in_default
 returns-in_default c =
     let s = c.args.self in
-    let p = plain-words _ _ (sym c.if-not-is_plain_block.ensures) in
+    let p = plain-words c.node.result.code c.node.result.v (sym c.if-not-is_plain_block.ensures) in
     let f = kind-node _ _ s.rule.read s.treelike _ s.within _ c.node.ensures _ _ _ _ p.0 p.1 refl refl in
     ap shape_of_block f ∙ block-body _ _ ∙ body-kids _ _ (λ e. omega (arith, c.in_default)) (λ e. omega (arith, c.in_default))
