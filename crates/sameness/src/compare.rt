@@ -60,9 +60,7 @@ pub fn compare(first: &[u32], second: &[u32], pairs: &mut [u32]) -> Result<bool,
 {
     let a = intake(first).map_err(CompareFault::First)?;
     let b = intake(second).map_err(CompareFault::Second)?;
-    let Some(table) = pairs.first_chunk_mut() else {
-        return Err(CompareFault::PairTable);
-    };
+    let table = pairs.first_chunk_mut().ok_or(CompareFault::PairTable)?;
     let l = Rule {
         words: first,
         at: a.places(),

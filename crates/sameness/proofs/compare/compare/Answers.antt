@@ -1,4 +1,4 @@
-use Rattle.std.proofs.Common.{◌≡◌, ℕ, ◌≤◌, List, ◌++◌, length, drop, Ok, Err, Result, refl, subst, arith}
+use Rattle.std.proofs.Common.{◌≡◌, ℕ, ◌≤◌, List, ◌++◌, length, drop, Ok, Err, Result, sym, refl, subst, arith}
 use Rattle.std.specs.Result.{MatchResult, IsErrAnd}
 use Rattle.rule.specs.declared.fault.Fault.{Fault}
 use Rattle.rule.specs.declared.nodes.Nodes.{Nodes}
@@ -35,7 +35,7 @@ judge_rules-requires c =
 pub returns : goal.returns
 returns c =
     let o = goal.at.returns c in
-    let h : 2048 ≤ length c.args.pairs.now = c.in-Some.ensures.variant.0 refl in
+    let h : 2048 ≤ length c.args.pairs.now = c.first_chunk_mut.ensures.variant.0 (sym c.in_ok-table.ensures.variant) in
     let e : length (c.judge_rules.new.t ++ drop 2048 c.args.pairs.now) ≡ length c.args.pairs.now = omega arith in
     let l : length c.judge_rules.new.t ≡ 2048 = front-long _ _ h e in
     ((first o.In_ok-a).passes, (second o.In_ok-b).passes, h, judged-front _ _ _ _ l c.judge_rules.result c.judge_rules.ensures, tail-kept _ _ l h)
