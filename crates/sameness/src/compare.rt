@@ -1,5 +1,5 @@
 // Two runs of words compared as rules.
-ghost use Rattle.std.specs.Prelude.{◌≡◌, ◌≤◌, length};
+ghost use Rattle.std.specs.Prelude.{◌≡◌};
 ghost use Rattle.rule.specs.Trees.{tree_of};
 ghost use Rattle.sameness.specs.Comparing.{Compared, Judged, Sound, compare_number};
 

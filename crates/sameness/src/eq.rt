@@ -1,6 +1,6 @@
 // Two rules compared node by node, the children before their node. The pair table has the partners of the locals that
 // were declared so far; what a failed reading added to it is put back.
-ghost use Rattle.std.specs.Prelude.{◌≡◌, ℕ, ◌+◌, ◌<◌, ◌≤◌, length};
+ghost use Rattle.std.specs.Prelude.{◌≡◌, ◌<◌, length};
 ghost use Rattle.sameness.specs.Deciding.{matched, Table};
 ghost use Rattle.sameness.specs.Sides.{BranchesWalked, SidesWalked, ChildrenWalked, PairsWalked, DirectFails};
 ghost use Rattle.sameness.specs.Walking.{Pictured, Not};
@@ -40,7 +40,7 @@ pub(crate) fn eq_node(t: &mut [u32; PLACES], x: Branch, y: Branch) -> bool
         branch: y,
         node: y.reduce_exprkind(),
     };
-    // Kept: the codes of a class of nodes stand together in the format, and only these need a function of their own.
+    // Kept: the codes of a class of nodes stand together in the format, and only these have a function of their own.
     match l.node.code {
         10..=36 => eq_expr(t, l, r),
         40..=50 => eq_pat(t, l, r),
@@ -96,10 +96,7 @@ fn over_words(words: &mut [u32], l: Side, r: Side) -> bool
     requires { length words.old ≡ 2048 }
     ensures { ChildrenWalked l.entry r.entry words.old words.new result }
 {
-    let Some(t) = words.as_mut_array() else {
-        unreachable!()
-    };
-    over(t, l, r)
+    over(words.as_mut_array().unwrap(), l, r)
 }
 
 // The second reading of a binary expression, where the first fails.

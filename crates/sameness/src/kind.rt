@@ -1,5 +1,5 @@
 // A node of a rule with all that is below it; and what a block expression comes to.
-ghost use Rattle.std.specs.Prelude.{◌≡◌, ℕ, ◌<◌, ◌≤◌, ◌&&◌, length, ◌==◌, slice_index};
+ghost use Rattle.std.specs.Prelude.{◌≡◌, ◌<◌, ◌&&◌, length, ◌==◌, slice_index};
 ghost use Rattle.rule.specs.Intake.{Treelike};
 ghost use Rattle.rule.specs.Nodes.{Spelt};
 ghost use Rattle.rule.specs.Trees.{tree_at};

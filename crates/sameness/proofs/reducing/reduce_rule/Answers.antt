@@ -18,8 +18,7 @@ invariant_of-reduce_exprkind c =
     let a = c.in_ok-nodes.ensures in
     let d : Read c.args.words.now c.places.result.now = rw c.places.ensures (accepted-read 6 _ _ _ (omega arith) a refl) in
     let z : length c.loop-number.kind-items ≡ length c.places.result.now = c.loop-number.auto.kind-items ∙ simp (length-take, length-replicate) (omega arith) in
-    let h : c.loop-number.number < length c.places.result.now = omega arith in
-    record { within = h; treelike = a.passes NotATree (omega arith); low = node-low _ _ d a.passes _ h }
+    record { within = omega arith; treelike = a.passes NotATree (omega arith); low = node-low _ _ d a.passes _ (omega arith) }
 
 pub loop-number-preserved : goal.loop-number-preserved
 loop-number-preserved c =
