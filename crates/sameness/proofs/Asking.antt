@@ -1,19 +1,34 @@
 -- What is known of the locals of two nodes that are compared, and how a walk speaks of the same nodes by other names.
-use Rattle.std.proofs.Common.{◌≡◌, ℕ, ◌<◌, Bool, true, List, sym, ◌∙◌, subst}
+use Rattle.std.proofs.Common.{◌≡◌, ℕ, ◌<◌, Bool, true, List, Some, None, sym, ◌∙◌, subst, arith}
+use Rattle.std.proofs.lemmas.Bool.Decides.{nat_tests}
 use Rattle.rule.specs.declared.nodes.Node.{Node}
+use Rattle.rule.specs.Nodes.{local_of}
 use Rattle.sameness.specs.Deciding.{direct_test}
 use Rattle.sameness.specs.Walking.{Held, NodesWalked}
 use Rattle.sameness.proofs.Outcomes.{direct-code, direct-path, low-declared, low-used}
 
-module _ (wa wb : List ℕ) (i j : ℕ) (l r : Node) (d : Held wa l i) (e : Held wb r j) (x : direct_test l.code l.v l.w r.code r.v r.w ≡ true) where
-  pub binding-low : l.code ≡ 41 → (l.v < 1024) × (r.v < 1024)
-  binding-low c = (low-declared l.code l.v l.w c d.low, low-declared r.code r.v r.w (sym (direct-code l.code l.v l.w r.code r.v r.w x) ∙ c) e.low)
+---- the local that a node uses
 
-  pub local-low : l.code ≡ 70 → l.v ≡ 0 → (l.w < 1024) × (r.w < 1024)
-  local-low c z = (
-    low-used l.code l.v l.w c z d.low,
-    low-used r.code r.v r.w (sym (direct-code l.code l.v l.w r.code r.v r.w x) ∙ c) (sym (direct-path l.code l.v l.w r.code r.v r.w x c) ∙ z) e.low,
-  )
+pub uses-local : (n : Node) (x : ℕ) → local_of n ≡ Some x → (n.code ≡ 70) × (n.v ≡ 0) × (n.w ≡ x)
+uses-local n x e = grind (arith, nat_tests)
+
+pub no-local : (n : Node) → local_of n ≡ None → (n.code ≡ 70) × (n.v ≡ 0) → ⊥
+no-local n e k = grind (arith, nat_tests)
+
+---- two nodes whose words that are compared are the same
+
+module _ (l r : Node) (x : direct_test l.code l.v l.w r.code r.v r.w ≡ true) where
+  -- both use a local, or neither does
+  pub second-local : local_of r ≡ None → (l.code ≡ 70) × (l.v ≡ 0) → ⊥
+  second-local n k =
+      no-local r n (sym (direct-code l.code l.v l.w r.code r.v r.w x) ∙ k.0, sym (direct-path l.code l.v l.w r.code r.v r.w x k.0) ∙ k.1)
+
+  pub binding-low : (wa wb : List ℕ) (i j : ℕ) → Held wa l i → Held wb r j → l.code ≡ 41 → (l.v < 1024) × (r.v < 1024)
+  binding-low wa wb i j d e c = (low-declared l.code l.v l.w c d.low, low-declared r.code r.v r.w (sym (direct-code l.code l.v l.w r.code r.v r.w x) ∙ c) e.low)
+
+-- a used local
+pub local-low : (ws : List ℕ) (n : Node) (i x : ℕ) → Held ws n i → local_of n ≡ Some x → x < 1024
+local-low ws n i x d e = let a = uses-local n x e in subst (λ z. z < 1024) a.2 (low-used n.code n.v n.w a.0 a.1 d.low)
 
 -- the same nodes, where their numbers are x and y
 pub nodes-named : (wa wb : List ℕ) (i i' j j' : ℕ) (t t' : List ℕ) (r : Bool) → i ≡ i' → j ≡ j' → NodesWalked wa i wb j t t' r → NodesWalked wa i' wb j' t t' r

@@ -1,6 +1,6 @@
 -- The shape of a node by its code and by how many children it has, and what a block expression of each shape comes to.
 use Rattle.std.proofs.Common.{◌≡◌, ℕ, true, false, ◌&&◌, eqb, ◌⊎◌, List, [], ◌∷◌, length, sym, refl, ap, ◌∙◌, inl, inr, arith}
-use Rattle.std.proofs.lemmas.Bool.{eq-eqb, ne_eqb, cond-true, cond-false, and_left, and_right, and_from, or_left, or_right, or_from}
+use Rattle.std.proofs.lemmas.Bool.{eqb-true, eq-eqb, ne_eqb, cond-true, cond-false, and_parts, and_left, and_right, and_from, or_left, or_right, or_from}
 use Rattle.rule.specs.Trees.{Tree, Forest, node, nil, cons}
 use Rattle.sameness.specs.Blocks.{one}
 use Rattle.sameness.specs.Reduction.{kept, code_of, children_of, first_of, is_absent, is_return, returns, shape_of_body, shape_of_block, shape, shaped, reduce, reduce_all}
@@ -40,13 +40,13 @@ pub shape-block : (c : ℕ) (ts : Forest) (t : Tree) → c ≡ 15 → ts ≡ one
 unfolding shape
 shape-block c ts t e f h = ap (shape c) f ∙ cond-true (eqb c 15) _ _ (eq-eqb c 15 e) ∙ h
 
-pub block-code : (c v w : ℕ) (body : Forest) → (c ≡ 94 → ⊥) → shape_of_block (node c v w body) ≡ kept
-unfolding shape_of_block
-block-code c v w body h = cond-false (eqb c 94 && eqb v 0) _ _ (and_left _ _ (ne_eqb c 94 h))
+-- a plain block, and any other node
+pub plain-words : (c v : ℕ) → (eqb c 94 && eqb v 0) ≡ true → (c ≡ 94) × (v ≡ 0)
+plain-words c v e = let p = and_parts _ _ e in (eqb-true c 94 p.0, eqb-true v 0 p.1)
 
-pub block-v : (c v w : ℕ) (body : Forest) → (v ≡ 0 → ⊥) → shape_of_block (node c v w body) ≡ kept
+pub block_kept : (c v w : ℕ) (body : Forest) → (eqb c 94 && eqb v 0) ≡ false → shape_of_block (node c v w body) ≡ kept
 unfolding shape_of_block
-block-v c v w body h = cond-false (eqb c 94 && eqb v 0) _ _ (and_right _ _ (ne_eqb v 0 h))
+block_kept c v w body e = cond-false _ _ _ e
 
 pub block-body : (w : ℕ) (body : Forest) → shape_of_block (node 94 0 w body) ≡ shape_of_body body
 unfolding shape_of_block

@@ -77,6 +77,9 @@ module _ (t u : Tree) (s rest : List ℕ) (l : length s ≡ 2048) where
       }
   judged-front false j = record { differ = j.differ; none = λ k h. front k h ∙ j.none k h }
 
+pub front-long : (s ps : List ℕ) → 2048 ≤ length ps → length (s ++ drop 2048 ps) ≡ length ps → length s ≡ 2048
+front-long s ps h e = let d : length (drop 2048 ps) ≡ length ps - 2048 = length-drop 2048 ps in omega (arith, sym (length-append s (drop 2048 ps)) ∙ e)
+
 pub tail-kept : (s ps : List ℕ) → length s ≡ 2048 → 2048 ≤ length ps → SameTail ps (s ++ drop 2048 ps)
 tail-kept s ps l h = (
   length-append s (drop 2048 ps) ∙ (let e : length (drop 2048 ps) ≡ length ps - 2048 = length-drop 2048 ps in omega arith),

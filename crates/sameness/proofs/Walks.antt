@@ -1,12 +1,14 @@
 -- What the comparing functions answer, put together from what their parts answer.
-use Rattle.std.proofs.Common.{◌≡◌, ℕ, ◌<◌, ◌≤◌, Bool, true, false, eqb, List, length, sym, ap, ◌∙◌, subst, arith}
+use Rattle.std.proofs.Common.{◌≡◌, ℕ, ◌<◌, ◌≤◌, Bool, true, false, eqb, List, length, Some, sym, ap, ◌∙◌, subst, ap₂, arith}
 use Rattle.std.proofs.lemmas.Bool.{cond-true, cond-false}
 use Rattle.trial.specs.Table.{paired, unpaired, recorded}
 use Rattle.trial.proofs.Recording.{paired-in, unpaired-in, recorded-in}
 use Rattle.trial.proofs.Extending.{extends-refl, extends-trans, unpaired-extends}
 use Rattle.rule.specs.declared.nodes.Node.{Node}
+use Rattle.rule.specs.Nodes.{local_of}
 use Rattle.sameness.specs.Deciding.{Table, add, Outcome, holds, given, direct_test, matched, fresh, Shows}
 use Rattle.sameness.specs.Walking.{Pictured, Answers, KindsWalked, KidsWalked, Not}
+use Rattle.sameness.proofs.Asking.{uses-local}
 use Rattle.sameness.proofs.Outcomes.{unequal, kids-fail, kids-hold, at_plain, at-binding, at_local}
 use Rattle.sameness.proofs.Shown.{fresh-shown, matched-shown, shows-set}
 
@@ -19,11 +21,11 @@ module _ (P : Table) (t : List ℕ) (x y : ℕ) (p : Pictured P t) (l : length t
   pub fresh-unpaired : fresh P x y ≡ unpaired t x y
   fresh-unpaired = fresh-shown P t x y p.low p.shows lx ly ∙ sym (unpaired-in t x y lx ly room)
 
-  pub matched-free : unpaired t x y ≡ true → matched P x y ≡ eqb x y
-  matched-free u = matched-shown P t x y p.low p.shows lx ly ∙ cond-true _ _ _ (sym (unpaired-in t x y lx ly room) ∙ u)
+  pub matched_free : unpaired t x y ≡ true → matched P x y ≡ eqb x y
+  matched_free u = matched-shown P t x y p.low p.shows lx ly ∙ cond-true _ _ _ (sym (unpaired-in t x y lx ly room) ∙ u)
 
-  pub matched-paired : unpaired t x y ≡ false → matched P x y ≡ paired t x y
-  matched-paired u = matched-shown P t x y p.low p.shows lx ly ∙ cond-false _ _ _ (sym (unpaired-in t x y lx ly room) ∙ u) ∙ sym (paired-in t x y lx ly room)
+  pub matched_paired : unpaired t x y ≡ false → matched P x y ≡ paired t x y
+  matched_paired u = matched-shown P t x y p.low p.shows lx ly ∙ cond-false _ _ _ (sym (unpaired-in t x y lx ly room) ∙ u) ∙ sym (paired-in t x y lx ly room)
 
   pub pictured-more : Pictured (add x y P) (recorded t x y)
   pictured-more =
@@ -92,15 +94,17 @@ module _ (wa : List ℕ) (l : Node) (wb : List ℕ) (r : Node) where
   answered true Q t o e p = (Q, e, p)
   answered false Q t o e p = e
 
-  pub kinds-local : (t t' : List ℕ) (res : Bool) → l.code ≡ 70 → l.v ≡ 0 → Direct ≡ true → ((P : Table) → Pictured P t' → res ≡ matched P l.w r.w)
+  pub kinds-local : (t t' : List ℕ) (res : Bool) (x y : ℕ) → local_of l ≡ Some x → local_of r ≡ Some y → Direct ≡ true → ((P : Table) → Pictured P t' → res ≡ matched P x y)
       → KidsWalked wa l wb r t t' true → KindsWalked wa l wb r t t' res
-  kinds-local t t' res e z d h k =
-      let n : Not 14 l = λ f. omega arith in
+  kinds-local t t' res x y u v d h k =
+      let a = uses-local l x u in
+      let b = uses-local r y v in
+      let n : Not 14 l = λ f. omega (arith, a.0) in
       record {
         grows = k.grows;
         answers = λ P p.
-            let a = k.answers P p in
-            answered res a.0 t' _
-            (kids-hold _ _ _ _ _ _ _ _ P a.0 n d a.1 ∙ at_local _ _ _ _ _ _ a.0 d e z ∙ ap (λ b. given b (holds a.0)) (sym (h a.0 a.2)))
-            a.2;
+            let o = k.answers P p in
+            answered res o.0 t' _
+            (kids-hold _ _ _ _ _ _ _ _ P o.0 n d o.1 ∙ at_local _ _ _ _ _ _ o.0 d a.0 a.1 ∙ ap (λ m. given m (holds o.0)) (ap₂ (matched o.0) a.2 b.2 ∙ sym (h o.0 o.2)))
+            o.2;
       }

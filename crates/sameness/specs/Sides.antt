@@ -6,19 +6,19 @@ use Rattle.sameness.specs.declared.kind.Side.{Side}
 use Rattle.sameness.specs.Walking.{NodesWalked, KindsWalked, KidsWalked, BothWalked, FirstFails}
 
 abbrev pub BranchesWalked : Branch → Branch → List ℕ → List ℕ → Bool → Type 0
-BranchesWalked x y t t' r = NodesWalked x.words.now x.number y.words.now y.number t t' r
+BranchesWalked x y t t' r = NodesWalked x.rule.words.now x.number y.rule.words.now y.number t t' r
 
 abbrev pub SidesWalked : Side → Side → List ℕ → List ℕ → Bool → Type 0
-SidesWalked l r t t' res = KindsWalked l.branch.words.now l.node r.branch.words.now r.node t t' res
+SidesWalked l r t t' res = KindsWalked l.branch.rule.words.now l.node r.branch.rule.words.now r.node t t' res
 
 abbrev pub ChildrenWalked : Side → Side → List ℕ → List ℕ → Bool → Type 0
-ChildrenWalked l r t t' res = KidsWalked l.branch.words.now l.node r.branch.words.now r.node t t' res
+ChildrenWalked l r t t' res = KidsWalked l.branch.rule.words.now l.node r.branch.rule.words.now r.node t t' res
 
 -- x₀ and y₀, and then x₁ and y₁
 abbrev pub PairsWalked : Branch → Branch → Branch → Branch → List ℕ → List ℕ → Bool → Type 0
 PairsWalked x₀ x₁ y₀ y₁ t t' r =
-    BothWalked (tree_at x₀.words.now x₀.number) (tree_at x₁.words.now x₁.number) (tree_at y₀.words.now y₀.number) (tree_at y₁.words.now y₁.number) t t' r
+    BothWalked (tree_at x₀.rule.words.now x₀.number) (tree_at x₁.rule.words.now x₁.number) (tree_at y₀.rule.words.now y₀.number) (tree_at y₁.rule.words.now y₁.number) t t' r
 
 -- the reading of a binary expression as it stands fails
 abbrev pub DirectFails : Side → Side → List ℕ → Type 0
-DirectFails l r t = FirstFails l.branch.words.now l.node r.branch.words.now r.node t
+DirectFails l r t = FirstFails l.branch.rule.words.now l.node r.branch.rule.words.now r.node t

@@ -1,5 +1,5 @@
 // Two runs of words compared as rules.
-ghost use Rattle.std.specs.Prelude.{◌≡◌, ◌≤◌, length};
+ghost use Rattle.std.specs.Prelude.{◌≡◌};
 ghost use Rattle.rule.specs.Trees.{tree_of};
 ghost use Rattle.sameness.specs.Comparing.{Compared, Judged, Sound, compare_number};
 
@@ -31,21 +31,18 @@ impl CompareFault {
 }
 
 // Two rules compared over a table of 2,048 words.
-fn judge_rules(a: Rule, b: Rule, t: &mut [u32]) -> bool
+fn judge_rules(a: Rule, b: Rule, t: &mut [u32; PLACES]) -> bool
     requires first { Sound a.words.now }
     requires second { Sound b.words.now }
-    requires room { length t.old ≡ 2048 }
     ensures { Judged result (tree_of a.entry.words.now) (tree_of b.entry.words.now) t.new }
 {
     clear(t);
     let x = Branch {
-        words: a.words,
-        at: a.at,
+        rule: a,
         number: a.root(),
     };
     let y = Branch {
-        words: b.words,
-        at: b.at,
+        rule: b,
         number: b.root(),
     };
     if eq_node(t, x, y) {
@@ -63,9 +60,7 @@ pub fn compare(first: &[u32], second: &[u32], pairs: &mut [u32]) -> Result<bool,
 {
     let a = intake(first).map_err(CompareFault::First)?;
     let b = intake(second).map_err(CompareFault::Second)?;
-    if pairs.len() < PLACES {
-        return Err(CompareFault::PairTable);
-    }
+    let table = pairs.first_chunk_mut().ok_or(CompareFault::PairTable)?;
     let l = Rule {
         words: first,
         at: a.places(),
@@ -74,5 +69,5 @@ pub fn compare(first: &[u32], second: &[u32], pairs: &mut [u32]) -> Result<bool,
         words: second,
         at: b.places(),
     };
-    Ok(judge_rules(l, r, &mut pairs[0..PLACES]))
+    Ok(judge_rules(l, r, table))
 }

@@ -1,44 +1,35 @@
 // Two rules compared node by node, the children before their node. The pair table has the partners of the locals that
 // were declared so far; what a failed reading added to it is put back.
-ghost use Rattle.std.specs.Prelude.{◌≡◌, ℕ, ◌+◌, ◌<◌, ◌≤◌, length};
-ghost use Rattle.trial.specs.Table.{unpaired};
+ghost use Rattle.std.specs.Prelude.{◌≡◌, ◌<◌, length};
 ghost use Rattle.sameness.specs.Deciding.{matched, Table};
 ghost use Rattle.sameness.specs.Sides.{BranchesWalked, SidesWalked, ChildrenWalked, PairsWalked, DirectFails};
 ghost use Rattle.sameness.specs.Walking.{Pictured, Not};
 
 use crate::kind::{Branch, Side};
 use crate::words::{eq_words, is_reversed};
-use rule::codes::{BINARY, BINDING, BLOCK, PATH};
+use rule::codes::{BINARY, BINDING, BLOCK};
 use trial::guard::{Before, Trial};
-use trial::pairs::{paired, record, unpaired};
-
-// Neither local has a partner: only then do their numbers count.
-fn are_free(t: &[u32], x: u32, y: u32) -> bool
-    ensures { result ≡ unpaired t.now x y }
-{
-    unpaired(t, x, y)
-}
+use trial::pairs::{PLACES, paired, record, unpaired};
 
 // A used local of the first rule and one of the second: partners, or both without one and the same.
-fn eq_locals(t: &[u32], x: u32, y: u32) -> bool
-    requires room { length t.now ≡ 2048 }
+#[tactic(auto, using(crate::proofs::Walks::matched_free, crate::proofs::Walks::matched_paired))]
+fn eq_locals(t: &[u32; PLACES], x: u32, y: u32) -> bool
     requires first { x < 1024 }
     requires second { y < 1024 }
     ensures { (P : Table) → Pictured P t.now → result ≡ matched P x y }
 {
-    if are_free(t, x, y) {
+    if unpaired(t, x, y) {
         return x == y;
     }
     paired(t, x, y)
 }
 
-// Kept: each function of the cycle says of which codes it is, two of three facts, and no two functions the same two; and the
-// table is lent to be changed, while the sides are copied.
+// Kept: each function of the cycle says for which codes it is. Of three facts eq_expr, eq_pat and eq_qpath say two each, and
+// no two of them the same two. Nor are the table and the two sides a struct: each call is of other sides.
 
 // Two branches, as what they come to.
 #[cycle(eq_nodes)]
-pub(crate) fn eq_node(t: &mut [u32], x: Branch, y: Branch) -> bool
-    requires { length t.old ≡ 2048 }
+pub(crate) fn eq_node(t: &mut [u32; PLACES], x: Branch, y: Branch) -> bool
     ensures { BranchesWalked x.entry y.entry t.old t.new result }
 {
     let l = Side {
@@ -49,7 +40,7 @@ pub(crate) fn eq_node(t: &mut [u32], x: Branch, y: Branch) -> bool
         branch: y,
         node: y.reduce_exprkind(),
     };
-    // Kept: the codes of a class of nodes stand together in the format, and only these need a function of their own.
+    // Kept: the codes of a class of nodes stand together in the format, and only these have a function of their own.
     match l.node.code {
         10..=36 => eq_expr(t, l, r),
         40..=50 => eq_pat(t, l, r),
@@ -62,8 +53,7 @@ pub(crate) fn eq_node(t: &mut [u32], x: Branch, y: Branch) -> bool
 
 // Expressions. Only comparisons are read both ways.
 #[cycle(eq_nodes)]
-fn eq_expr(t: &mut [u32], l: Side, r: Side) -> bool
-    requires room { length t.old ≡ 2048 }
+fn eq_expr(t: &mut [u32; PLACES], l: Side, r: Side) -> bool
     requires not_binding { Not 41 l.node }
     requires not_path { Not 70 l.node }
     ensures { SidesWalked l.entry r.entry t.old t.new result }
@@ -76,8 +66,7 @@ fn eq_expr(t: &mut [u32], l: Side, r: Side) -> bool
 
 // Binary expressions: as they stand first, and if that fails, with exchanged operands.
 #[cycle(eq_nodes)]
-fn eq_binary(t: &mut [u32], l: Side, r: Side) -> bool
-    requires room { length t.old ≡ 2048 }
+fn eq_binary(t: &mut [u32; PLACES], l: Side, r: Side) -> bool
     requires binary { l.node.code ≡ 14 }
     ensures { SidesWalked l.entry r.entry t.old t.new result }
 {
@@ -87,11 +76,11 @@ fn eq_binary(t: &mut [u32], l: Side, r: Side) -> bool
     {
         let before = Before::of(t);
         let mut trial = Trial {
-            table: &mut *t,
+            table: t,
             before,
             kept: false,
         };
-        if over(trial.table, l, r) {
+        if over_words(trial.table, l, r) {
             trial.kept = true;
             return true;
         }
@@ -99,10 +88,20 @@ fn eq_binary(t: &mut [u32], l: Side, r: Side) -> bool
     eq_reversed(t, l, r)
 }
 
+// The children of two nodes one by one, over the table that a trial holds.
+// Kept: a function of its own, which asks the length. A trial holds a table of any length, and where the array is lent out of
+// the trial's own field, the proof knows no word of the table afterwards.
+#[cycle(eq_nodes)]
+fn over_words(words: &mut [u32], l: Side, r: Side) -> bool
+    requires { length words.old ≡ 2048 }
+    ensures { ChildrenWalked l.entry r.entry words.old words.new result }
+{
+    over(words.as_mut_array().unwrap(), l, r)
+}
+
 // The second reading of a binary expression, where the first fails.
 #[cycle(eq_nodes)]
-fn eq_reversed(t: &mut [u32], l: Side, r: Side) -> bool
-    requires room { length t.old ≡ 2048 }
+fn eq_reversed(t: &mut [u32; PLACES], l: Side, r: Side) -> bool
     requires binary { l.node.code ≡ 14 }
     requires direct_fails { DirectFails l r t.old }
     ensures { SidesWalked l.entry r.entry t.old t.new result }
@@ -118,8 +117,7 @@ fn eq_reversed(t: &mut [u32], l: Side, r: Side) -> bool
 
 // Patterns. A binding makes its two locals partners, after what is below it.
 #[cycle(eq_nodes)]
-fn eq_pat(t: &mut [u32], l: Side, r: Side) -> bool
-    requires room { length t.old ≡ 2048 }
+fn eq_pat(t: &mut [u32; PLACES], l: Side, r: Side) -> bool
     requires not_binary { Not 14 l.node }
     requires not_path { Not 70 l.node }
     ensures { SidesWalked l.entry r.entry t.old t.new result }
@@ -142,8 +140,7 @@ fn eq_pat(t: &mut [u32], l: Side, r: Side) -> bool
 
 // Paths. A path to a local goes by its partner.
 #[cycle(eq_nodes)]
-fn eq_qpath(t: &mut [u32], l: Side, r: Side) -> bool
-    requires room { length t.old ≡ 2048 }
+fn eq_qpath(t: &mut [u32; PLACES], l: Side, r: Side) -> bool
     requires not_binary { Not 14 l.node }
     requires not_binding { Not 41 l.node }
     ensures { SidesWalked l.entry r.entry t.old t.new result }
@@ -154,18 +151,16 @@ fn eq_qpath(t: &mut [u32], l: Side, r: Side) -> bool
     if !over(t, l, r) {
         return false;
     }
-    // Kept: v is a word of the format, of which this code asks the first number alone.
-    if l.node.code == PATH && l.node.v == 0 {
-        return eq_locals(t, l.node.w, r.node.w);
+    match (l.node.local(), r.node.local()) {
+        (Some(x), Some(y)) => eq_locals(t, x, y),
+        _ => true,
     }
-    true
 }
 
 // Blocks: the statements, and then the tail.
 // Kept: a function of its own, since expressions, blocks, statements and patterns are compared by four that call each other.
 #[cycle(eq_nodes)]
-fn eq_block(t: &mut [u32], l: Side, r: Side) -> bool
-    requires room { length t.old ≡ 2048 }
+fn eq_block(t: &mut [u32; PLACES], l: Side, r: Side) -> bool
     requires not_binary { Not 14 l.node }
     requires not_binding { Not 41 l.node }
     requires not_path { Not 70 l.node }
@@ -177,8 +172,7 @@ fn eq_block(t: &mut [u32], l: Side, r: Side) -> bool
 // Statements.
 // Kept: a function of its own, since expressions, blocks, statements and patterns are compared by four that call each other.
 #[cycle(eq_nodes)]
-fn eq_stmt(t: &mut [u32], l: Side, r: Side) -> bool
-    requires room { length t.old ≡ 2048 }
+fn eq_stmt(t: &mut [u32; PLACES], l: Side, r: Side) -> bool
     requires not_binary { Not 14 l.node }
     requires not_binding { Not 41 l.node }
     requires not_path { Not 70 l.node }
@@ -190,8 +184,7 @@ fn eq_stmt(t: &mut [u32], l: Side, r: Side) -> bool
 // Nodes that link no locals and are read one way, by their words and their children: types, constants, segments, fields,
 // arms, literals, what is absent, and what the functions above leave.
 #[cycle(eq_nodes)]
-fn eq_part(t: &mut [u32], l: Side, r: Side) -> bool
-    requires room { length t.old ≡ 2048 }
+fn eq_part(t: &mut [u32; PLACES], l: Side, r: Side) -> bool
     requires not_binary { Not 14 l.node }
     requires not_binding { Not 41 l.node }
     requires not_path { Not 70 l.node }
@@ -202,8 +195,7 @@ fn eq_part(t: &mut [u32], l: Side, r: Side) -> bool
 
 // The children of two nodes, one by one.
 #[cycle(eq_nodes)]
-fn over(t: &mut [u32], l: Side, r: Side) -> bool
-    requires { length t.old ≡ 2048 }
+fn over(t: &mut [u32; PLACES], l: Side, r: Side) -> bool
     ensures { ChildrenWalked l.entry r.entry t.old t.new result }
 {
     if l.node.kids.len() != r.node.kids.len() {
@@ -211,13 +203,11 @@ fn over(t: &mut [u32], l: Side, r: Side) -> bool
     }
     for (x, y) in l.node.kids.iter().zip(r.node.kids) {
         let first = Branch {
-            words: l.branch.words,
-            at: l.branch.at,
+            rule: l.branch.rule,
             number: *x as usize,
         };
         let second = Branch {
-            words: r.branch.words,
-            at: r.branch.at,
+            rule: r.branch.rule,
             number: *y as usize,
         };
         if !eq_node(t, first, second) {
@@ -229,8 +219,7 @@ fn over(t: &mut [u32], l: Side, r: Side) -> bool
 
 // Two branches, and then two more.
 #[cycle(eq_nodes)]
-fn both(t: &mut [u32], x0: Branch, y0: Branch, x1: Branch, y1: Branch) -> bool
-    requires { length t.old ≡ 2048 }
+fn both(t: &mut [u32; PLACES], x0: Branch, y0: Branch, x1: Branch, y1: Branch) -> bool
     ensures { PairsWalked x0.entry x1.entry y0.entry y1.entry t.old t.new result }
 {
     eq_node(t, x0, y0) && eq_node(t, x1, y1)

@@ -1,6 +1,6 @@
 // A node of a rule with all that is below it; and what a block expression comes to.
-ghost use Rattle.std.specs.Prelude.{◌≡◌, ℕ, ◌<◌, ◌≤◌, ◌&&◌, length, ◌==◌, slice_index};
-ghost use Rattle.rule.specs.Intake.{Read, Treelike};
+ghost use Rattle.std.specs.Prelude.{◌≡◌, ◌<◌, ◌&&◌, length, ◌==◌, slice_index};
+ghost use Rattle.rule.specs.Intake.{Treelike};
 ghost use Rattle.rule.specs.Nodes.{Spelt};
 ghost use Rattle.rule.specs.Trees.{tree_at};
 ghost use Rattle.sameness.specs.Blocks.{Comes, Made, one};
@@ -8,19 +8,17 @@ ghost use Rattle.sameness.specs.Reduction.{reduce};
 ghost use Rattle.sameness.specs.Sameness.{pair};
 ghost use Rattle.sameness.specs.Walking.{Held, Low, tree_in};
 
-use rule::codes::{ABSENT, BLOCK, BLOCK_EXPR, EXPR_STMT, RETURN, SEMI_STMT, TUPLE};
+use rule::codes::{ABSENT, BLOCK_EXPR, EXPR_STMT, RETURN, SEMI_STMT, TUPLE};
 use rule::nodes::{Node, Rule};
 
 // Node `number` of a rule whose nodes form a tree, with all that is below it. No local in it is above 1023.
 #[derive(Clone, Copy)]
 pub(crate) struct Branch<'w, 'p> {
-    pub words: &'w [u32],
-    pub at: &'p [u16],
+    pub rule: Rule<'w, 'p>,
     pub number: usize,
-    ghost read: { Read words.now at.now },
-    ghost within: { number < length at.now },
-    ghost treelike: { Treelike words.now },
-    ghost low: { Low (tree_at words.now number) },
+    ghost within: { number < length rule.at.now },
+    ghost treelike: { Treelike rule.words.now },
+    ghost low: { Low (tree_at rule.words.now number) },
 }
 
 // A branch, and the node that stands for it: its own node, or what a block expression comes to.
@@ -28,19 +26,18 @@ pub(crate) struct Branch<'w, 'p> {
 pub(crate) struct Side<'w, 'p> {
     pub branch: Branch<'w, 'p>,
     pub node: Node<'w>,
-    ghost held: { Held branch.words.now node branch.number },
+    ghost held: { Held branch.rule.words.now node branch.number },
 }
 
 impl<'w, 'p> Side<'w, 'p> {
     // Child `q` of the node.
     pub(crate) fn child(self, q: usize) -> Branch<'w, 'p>
         requires { q < length self.node.kids.now }
-        ensures words { result.words.now ≡ self.entry.branch.words.now }
+        ensures words { result.rule.words.now ≡ self.entry.branch.rule.words.now }
         ensures number { result.number ≡ slice_index self.entry.node.kids.now q }
     {
         Branch {
-            words: self.branch.words,
-            at: self.branch.at,
+            rule: self.branch.rule,
             number: self.node.kids[q] as usize,
         }
     }
@@ -55,18 +52,14 @@ fn is_absent(node: Node) -> bool
 impl<'w, 'p> Branch<'w, 'p> {
     // The node as it stands.
     fn node(self) -> Node<'w>
-        ensures { Spelt self.entry.words.now (slice_index self.entry.at.now self.entry.number) result }
+        ensures { Spelt self.entry.rule.words.now (slice_index self.entry.rule.at.now self.entry.number) result }
     {
-        let rule = Rule {
-            words: self.words,
-            at: self.at,
-        };
-        rule.node(self.number).unwrap()
+        self.rule.node(self.number).unwrap()
     }
 
     // What a plain block comes to that has this tail only: an empty tuple, or the return.
     fn reduce_tail(self) -> Option<Node<'w>>
-        ensures { Comes self.entry.words.now (one (tree_at self.entry.words.now self.entry.number)) self.entry.number result }
+        ensures { Comes self.entry.rule.words.now (one (tree_at self.entry.rule.words.now self.entry.number)) self.entry.number result }
     {
         let tail = self.node();
         if is_absent(tail) {
@@ -85,7 +78,7 @@ impl<'w, 'p> Branch<'w, 'p> {
 
     // What a plain block comes to that has this statement and the tail: the return that is all it holds.
     fn reduce_stmt(self, tail: Branch) -> Option<Node<'w>>
-        ensures { Comes self.entry.words.now (pair (tree_at self.entry.words.now self.entry.number) (tree_at tail.entry.words.now tail.entry.number)) self.entry.number result }
+        ensures { Comes self.entry.rule.words.now (pair (tree_at self.entry.rule.words.now self.entry.number) (tree_at tail.entry.rule.words.now tail.entry.number)) self.entry.number result }
     {
         if !is_absent(tail.node()) {
             return None;
@@ -109,14 +102,13 @@ impl<'w, 'p> Branch<'w, 'p> {
 
     // What a block comes to, if not itself.
     fn reduce_block(self) -> Option<Node<'w>>
-        ensures { Made self.entry.words.now (tree_at self.entry.words.now self.entry.number) self.entry.number result }
+        ensures { Made self.entry.rule.words.now (tree_at self.entry.rule.words.now self.entry.number) self.entry.number result }
     {
         let block = Side {
             branch: self,
             node: self.node(),
         };
-        // Kept: v is a word of the format, of which this code asks the first number alone.
-        if block.node.code != BLOCK || block.node.v != 0 {
+        if !block.node.is_plain_block() {
             return None;
         }
         match block.node.kids.len() {
@@ -128,8 +120,8 @@ impl<'w, 'p> Branch<'w, 'p> {
 
     // The node, and a block expression as what it comes to.
     pub(crate) fn reduce_exprkind(self) -> Node<'w>
-        ensures tree { tree_in self.entry.words.now result ≡ reduce (tree_at self.entry.words.now self.entry.number) }
-        ensures held { Held self.entry.words.now result self.entry.number }
+        ensures tree { tree_in self.entry.rule.words.now result ≡ reduce (tree_at self.entry.rule.words.now self.entry.number) }
+        ensures held { Held self.entry.rule.words.now result self.entry.number }
     {
         let node = self.node();
         if node.code != BLOCK_EXPR || node.kids.len() != 1 {

@@ -9,6 +9,8 @@ mod kind;
 pub mod reducing;
 pub mod words;
 
+// Kept: three functions that answer 0, since the documents name them as the carriers of the theorems.
+
 // Sameness is an equivalence of the rules that are not the same as nothing.
 pub fn equivalence() -> u8
     ensures reflexive { Reflexive }

@@ -7,7 +7,7 @@ use crate::kind::Branch;
 use arrayvec::ArrayVec;
 use rule::fault::Fault;
 use rule::intake::intake;
-use rule::nodes::{MOST_NODES, Node};
+use rule::nodes::{MOST_NODES, Node, Rule};
 
 /// What each node comes to, in the order of the nodes.
 #[derive(Drop)]
@@ -30,10 +30,13 @@ pub fn reduce_rule<'a>(words: &'a [u32]) -> Result<Reduced<'a>, Fault>
     ensures err { IfErr result (λ f. Unsound words.now f) }
 {
     let nodes = intake(words)?;
-    let at = nodes.places();
+    let rule = Rule {
+        words,
+        at: nodes.places(),
+    };
     let mut kinds = ArrayVec::new();
-    for number in 0..at.len() {
-        kinds.push(Branch { words, at, number }.reduce_exprkind());
+    for number in 0..rule.at.len() {
+        kinds.push(Branch { rule, number }.reduce_exprkind());
     }
     Ok(Reduced { kinds })
 }

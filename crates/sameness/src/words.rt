@@ -1,13 +1,15 @@
 // The words of two nodes that are compared.
 ghost use Rattle.sameness.specs.Deciding.{direct_test, reverses_test, reversed_test};
 ghost use Rattle.sameness.specs.Sameness.{bare_v, bare_w};
+ghost use Rattle.rule.specs.Comparisons.{comparison_number};
 ghost use Rattle.std.specs.Prelude.{◌≡◌};
 
-use rule::codes::{BINARY, BINDING, BLOCK_EXPR, PATH, REF_TY, STRUCT_PAT, is_barred};
+use rule::codes::{BINDING, BLOCK_EXPR, REF_TY, STRUCT_PAT, is_barred};
 use rule::comparison::Comparison;
 use rule::nodes::Node;
 
 // v, but 0 where it is not compared.
+#[tactic(auto, unfolding(crate::specs::Sameness::bare_v))]
 pub fn bare_v(node: Node) -> u32
     ensures { result ≡ bare_v node.entry.code node.entry.v }
 {
@@ -18,18 +20,15 @@ pub fn bare_v(node: Node) -> u32
 }
 
 // w, but 0 where it is the number of a local.
+#[tactic(auto, unfolding(crate::specs::Sameness::bare_w))]
 pub fn bare_w(node: Node) -> u32
     ensures { result ≡ bare_w node.entry.code node.entry.v node.entry.w }
 {
-    // Kept: v is a word of the format, of which this code asks the first number alone.
-    if node.code == PATH && node.v == 0 {
-        0
-    } else {
-        node.w
-    }
+    if node.local().is_some() { 0 } else { node.w }
 }
 
 // The two can be read as they stand.
+#[tactic(auto, unfolding(crate::specs::Deciding::direct_test))]
 pub(crate) fn eq_words(l: Node, r: Node) -> bool
     ensures { result ≡ direct_test l.entry.code l.entry.v l.entry.w r.entry.code r.entry.v r.entry.w }
 {
@@ -37,15 +36,20 @@ pub(crate) fn eq_words(l: Node, r: Node) -> bool
 }
 
 // One comparison is the other with its operands exchanged.
-fn swap_binop(l: u32, r: u32) -> bool
-    ensures { result ≡ reverses_test l r }
+#[tactic(auto, unfolding(crate::specs::Deciding::reverses_test))]
+fn swap_binop(l: Comparison, r: Comparison) -> bool
+    ensures { result ≡ reverses_test (comparison_number l) (comparison_number r) }
 {
-    Comparison::of(l).is_some_and(|comparison| comparison.reversed().number() == r)
+    l.reversed() == r
 }
 
 // The two can be read with exchanged operands.
+#[tactic(auto, unfolding(crate::specs::Deciding::reversed_test, crate::specs::Deciding::reverses_test))]
 pub(crate) fn is_reversed(l: Node, r: Node) -> bool
     ensures { result ≡ reversed_test l.entry.code l.entry.v l.entry.w r.entry.code r.entry.v r.entry.w }
 {
-    l.code == BINARY && r.code == BINARY && swap_binop(l.v, r.v) && l.w == r.w
+    match (l.comparison(), r.comparison()) {
+        (Some(x), Some(y)) => swap_binop(x, y) && l.w == r.w,
+        _ => false,
+    }
 }

@@ -1,12 +1,12 @@
-use Rattle.std.proofs.Common.{rules, ◌≡◌, true, min, ◌⊎◌, length, get_or, sym, refl, ◌∙◌, subst, ap₂, inl, inr, ⊎_elim, arith, length-append}
+use Rattle.std.proofs.Common.{rules, ◌≡◌, ℕ, ◌<◌, true, min, ◌⊎◌, length, get_or, sym, refl, ◌∙◌, subst, ap₂, inl, inr, arith, length-append}
 use Rattle.std.proofs.lemmas.Slice.Zip.{zip_turn, zip_end}
 use Rattle.rule.specs.Trees.{tree_at}
 use Rattle.sameness.proofs.Overs.{going_more, going-fails, going-all, over-unequal, first_holds, not-exchanged, few-operands, exchanged, both-then, both-same}
 use Rattle.sameness.specs.Walking.{Low, KindsWalked}
-use Rattle.sameness.proofs.Asking.{binding-low, local-low, nodes-named}
+use Rattle.sameness.proofs.Asking.{no-local, second-local, binding-low, local-low, nodes-named}
 use Rattle.sameness.proofs.Walks.{kinds-unequal, kinds-other, kinds-fail, kinds-plain, kinds-by, kinds-bound, kinds-taken, kinds-local}
 use Rattle.sameness.proofs.eq.+eq_nodes.Goals as goal
-use Rattle.sameness.proofs.eq.+eq_nodes.Goals.{eq_reversed-then-l-ne2-via-then-l-ne2, eq_reversed-then-l-ne2-via-else-l-ne2+then-r-ne2}
+use Rattle.sameness.proofs.eq.+eq_nodes.Goals.{over-In-Some, eq_reversed-then-l-ne2-via-then-l-ne2, eq_reversed-then-l-ne2-via-else-l-ne2+then-r-ne2}
 
 pub both-returns-then-eq_node : goal.both-returns-then-eq_node
 both-returns-then-eq_node t c = both-then _ _ _ _ _ _ _ _ c.if-eq_node.ensures c.eq_node-then-eq_node.ensures
@@ -31,15 +31,15 @@ eq_pat-returns-then-l-ne-BINDING t c =
 pub eq_pat-returns-then-not-unpaired : goal.eq_pat-returns-then-not-unpaired
 eq_pat-returns-then-not-unpaired t c =
     let d = sym c.if-not-eq_words.ensures in
-    let k = binding-low _ _ _ _ _ _ c.args.l.held c.args.r.held d c.if-l-ne-BINDING.false in
-    kinds-taken _ c.args.l.node _ c.args.r.node _ _ c.if-l-ne-BINDING.false d (c.over.auto.t ∙ c.requires.room) k.0 k.1 (sym c.if-not-unpaired.ensures) c.if-not-over.ensures
+    let k = binding-low c.args.l.node c.args.r.node d _ _ _ _ c.args.l.held c.args.r.held c.if-l-ne-BINDING.false in
+    kinds-taken _ c.args.l.node _ c.args.r.node _ _ c.if-l-ne-BINDING.false d c.over.array_long k.0 k.1 (sym c.if-not-unpaired.ensures) c.if-not-over.ensures
 
 pub eq_pat-returns : goal.eq_pat-returns
 eq_pat-returns t c =
     let d = sym c.if-not-eq_words.ensures in
-    let k = binding-low _ _ _ _ _ _ c.args.l.held c.args.r.held d c.if-l-ne-BINDING.false in
-    subst (λ z. KindsWalked c.args.l.branch.words.now c.args.l.node c.args.r.branch.words.now c.args.r.node c.args.t.now z true) (sym c.record.ensures)
-    (kinds-bound _ c.args.l.node _ c.args.r.node _ _ c.if-l-ne-BINDING.false d (c.over.auto.t ∙ c.requires.room) k.0 k.1 (sym c.if-not-unpaired.ensures) c.if-not-over.ensures)
+    let k = binding-low c.args.l.node c.args.r.node d _ _ _ _ c.args.l.held c.args.r.held c.if-l-ne-BINDING.false in
+    subst (λ z. KindsWalked c.args.l.branch.rule.words.now c.args.l.node c.args.r.branch.rule.words.now c.args.r.node c.args.t.now z true) (sym c.record.ensures)
+    (kinds-bound _ c.args.l.node _ c.args.r.node _ _ c.if-l-ne-BINDING.false d c.over.array_long k.0 k.1 (sym c.if-not-unpaired.ensures) c.if-not-over.ensures)
 
 pub eq_qpath-returns-then-not-eq_words : goal.eq_qpath-returns-then-not-eq_words
 eq_qpath-returns-then-not-eq_words t c = kinds-unequal _ c.args.l.node _ c.args.r.node _ c.requires.not_binary (sym c.if-not-eq_words.ensures)
@@ -49,21 +49,29 @@ eq_qpath-returns-then-not-over t c = kinds-fail _ c.args.l.node _ c.args.r.node 
 
 pub eq_qpath-eq_locals-requires : goal.eq_qpath-eq_locals-requires
 eq_qpath-eq_locals-requires t c =
-    let k = local-low _ _ _ _ _ _ c.args.l.held c.args.r.held (sym c.if-not-eq_words.ensures) c.if-l-eq-PATH.true c.if-l-eq0.true in
-    record { room = c.over.auto.t ∙ c.requires.room; first = k.0; second = k.1 }
+    record {
+      first = local-low _ c.args.l.node _ _ c.args.l.held (sym c.local.ensures ∙ c.in-Some-Some.is-0);
+      second = local-low _ c.args.r.node _ _ c.args.r.held (sym c.local-2.ensures ∙ c.in-Some-Some.is-1);
+    }
 
-pub eq_qpath-returns-then-l-eq0 : goal.eq_qpath-returns-then-l-eq0
-eq_qpath-returns-then-l-eq0 t c =
-    kinds-local _ c.args.l.node _ c.args.r.node _ _ _ c.if-l-eq-PATH.true c.if-l-eq0.true (sym c.if-not-eq_words.ensures) c.eq_locals.ensures c.if-not-over.ensures
+pub eq_qpath-returns-in-Some-Some : goal.eq_qpath-returns-in-Some-Some
+eq_qpath-returns-in-Some-Some t c =
+    kinds-local _ c.args.l.node _ c.args.r.node _ _ _ _ _ (sym c.local.ensures ∙ c.in-Some-Some.is-0) (sym c.local-2.ensures ∙ c.in-Some-Some.is-1)
+    (sym c.if-not-eq_words.ensures) c.eq_locals.ensures c.if-not-over.ensures
 
-pub eq_qpath-returns : goal.eq_qpath-returns
-eq_qpath-returns t c =
-    kinds-plain _ c.args.l.node _ c.args.r.node _ _ c.requires.not_binary c.requires.not_binding (λ e. ⊎_elim (λ k. k.1 e.1) (λ k. k e.0) c.else-l-eq-PATH.either) (sym c.if-not-eq_words.ensures) c.if-not-over.ensures
+pub eq_qpath-returns-in_default : goal.eq_qpath-returns-in_default
+eq_qpath-returns-in_default t c =
+    let d = sym c.if-not-eq_words.ensures in
+    kinds-plain _ c.args.l.node _ c.args.r.node _ _ c.requires.not_binary c.requires.not_binding (second-local c.args.l.node c.args.r.node d (sym c.local-2.ensures ∙ c.in_default.is-1)) d c.if-not-over.ensures
 
-pub eq_binary-returns-then-over : goal.eq_binary-returns-then-over
-eq_binary-returns-then-over t c =
-    subst (λ z. KindsWalked c.args.l.branch.words.now c.args.l.node c.args.r.branch.words.now c.args.r.node c.args.t.now z true) (sym (c.drop-trial.ensures.keeps refl))
-    (first_holds _ c.args.l.node _ c.args.r.node _ _ c.requires.binary (sym c.if-not-eq_words.ensures) c.if-over.ensures)
+pub eq_qpath-returns-in_default-2 : goal.eq_qpath-returns-in_default-2
+eq_qpath-returns-in_default-2 t c =
+    kinds-plain _ c.args.l.node _ c.args.r.node _ _ c.requires.not_binary c.requires.not_binding (no-local c.args.l.node (sym c.local.ensures ∙ c.in_default.is-0)) (sym c.if-not-eq_words.ensures) c.if-not-over.ensures
+
+pub eq_binary-returns-then-over_words : goal.eq_binary-returns-then-over_words
+eq_binary-returns-then-over_words t c =
+    subst (λ z. KindsWalked c.args.l.branch.rule.words.now c.args.l.node c.args.r.branch.rule.words.now c.args.r.node c.args.t.now z true) (sym (c.drop-trial.ensures.keeps refl))
+    (first_holds _ c.args.l.node _ c.args.r.node _ _ c.requires.binary (sym c.if-not-eq_words.ensures) c.if-over_words.ensures)
 
 pub eq_reversed-returns-then-not-is_reversed : goal.eq_reversed-returns-then-not-is_reversed
 eq_reversed-returns-then-not-is_reversed t c = not-exchanged _ c.args.l.node _ c.args.r.node _ c.requires.binary (sym c.if-not-is_reversed.ensures) c.requires.direct_fails
@@ -81,40 +89,45 @@ eq_reversed-returns t c =
     (ap₂ tree_at c.child-2.ensures.words c.child-2.ensures.number) (ap₂ tree_at c.child-4.ensures.words c.child-4.ensures.number) c.both.ensures)
 
 pub over-returns-then-l-r : goal.over-returns-then-l-r
-over-returns-then-l-r t c = over-unequal c.args.l.branch.words.now c.args.l.node c.args.r.branch.words.now c.args.r.node _ c.if-l-r.true
+over-returns-then-l-r t c = over-unequal c.args.l.branch.rule.words.now c.args.l.node c.args.r.branch.rule.words.now c.args.r.node _ c.if-l-r.true
+
+-- the two children of this turn stand at one place of the two nodes
+turn : (t : ℕ) (c : over-In-Some t)
+    → (length c.loop-x.yielded < length c.args.l.node.kids.now) × (length c.loop-x.yielded < length c.args.r.node.kids.now)
+    × ((d : ℕ) → c.in-Some.x.now ≡ get_or c.args.l.node.kids.now (length c.loop-x.yielded) d) × ((d : ℕ) → c.in-Some.y.now ≡ get_or c.args.r.node.kids.now (length c.loop-x.yielded) d)
+turn t c =
+    zip_turn c.args.l.node.kids.now c.args.r.node.kids.now c.loop-x.yielded c.into_iter-x-iterator.result c.loop-x.x-iterator c.next.new.self c.next.result (search rules) (search rules) c.loop-x.yielded_by (c.in-Some.x, c.in-Some.y) c.in-Some.is c.next.ensures.steps
 
 pub over-invariant_of-first : goal.over-invariant_of-first
 over-invariant_of-first t c =
     let l = c.args.l in
-    let z = zip_turn c.args.l.node.kids.now c.args.r.node.kids.now c.loop-x.yielded c.into_iter-x-iterator.result c.loop-x.x-iterator c.next.new.self c.next.result (search rules) (search rules) c.loop-x.yielded_by (c.in-Some.x, c.in-Some.y) c.in-Some.is c.next.ensures.steps in
+    let z = turn t (goal.at.over-invariant_of-first t c).In-Some in
     let e : c.in-Some.x.now ≡ get_or l.node.kids.now (length c.loop-x.yielded) 0 = z.2 0 in
     record {
-      read = l.branch.read;
       within = omega (arith, e, l.held.below _ z.0, l.branch.within);
       treelike = l.branch.treelike;
-      low = subst (λ n. Low (tree_at l.branch.words.now n)) (sym e) (l.held.kids_low _ z.0);
+      low = subst (λ n. Low (tree_at l.branch.rule.words.now n)) (sym e) (l.held.kids_low _ z.0);
     }
 
 pub over-invariant_of-second : goal.over-invariant_of-second
 over-invariant_of-second t c =
     let r = c.args.r in
-    let z = zip_turn c.args.l.node.kids.now c.args.r.node.kids.now c.loop-x.yielded c.into_iter-x-iterator.result c.loop-x.x-iterator c.next.new.self c.next.result (search rules) (search rules) c.loop-x.yielded_by (c.in-Some.x, c.in-Some.y) c.in-Some.is c.next.ensures.steps in
+    let z = turn t (goal.at.over-invariant_of-second t c).In-Some in
     let e : c.in-Some.y.now ≡ get_or r.node.kids.now (length c.loop-x.yielded) 0 = z.3 0 in
     record {
-      read = r.branch.read;
       within = omega (arith, e, r.held.below _ z.1, r.branch.within);
       treelike = r.branch.treelike;
-      low = subst (λ n. Low (tree_at r.branch.words.now n)) (sym e) (r.held.kids_low _ z.1);
+      low = subst (λ n. Low (tree_at r.branch.rule.words.now n)) (sym e) (r.held.kids_low _ z.1);
     }
 
 pub over-returns-then-not-eq_node : goal.over-returns-then-not-eq_node
 over-returns-then-not-eq_node t c =
-    let z = zip_turn c.args.l.node.kids.now c.args.r.node.kids.now c.loop-x.yielded c.into_iter-x-iterator.result c.loop-x.x-iterator c.next.new.self c.next.result (search rules) (search rules) c.loop-x.yielded_by (c.in-Some.x, c.in-Some.y) c.in-Some.is c.next.ensures.steps in
+    let z = turn t (goal.at.over-returns-then-not-eq_node t c).In-Some in
     going-fails _ c.args.l.node _ c.args.r.node _ _ _ _ z.0 z.1 (nodes-named _ _ _ _ _ _ _ _ _ (z.2 0) (z.3 0) c.if-not-eq_node.ensures) c.loop-x.invariant
 
 pub over-loop-x-preserved : goal.over-loop-x-preserved
 over-loop-x-preserved t c =
-    let z = zip_turn c.args.l.node.kids.now c.args.r.node.kids.now c.loop-x.yielded c.into_iter-x-iterator.result c.loop-x.x-iterator c.next.new.self c.next.result (search rules) (search rules) c.loop-x.yielded_by (c.in-Some.x, c.in-Some.y) c.in-Some.is c.next.ensures.steps in
+    let z = turn t (goal.at.over-loop-x-preserved t c).In-Some in
     rw length-append (going_more _ c.args.l.node _ c.args.r.node _ _ _ _ z.0 z.1 (nodes-named _ _ _ _ _ _ _ _ _ (z.2 0) (z.3 0) c.if-not-eq_node.ensures) c.loop-x.invariant)
 
 pub over-returns : goal.over-returns

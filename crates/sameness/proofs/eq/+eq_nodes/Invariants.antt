@@ -14,6 +14,9 @@ decreases-eq_binary l = 8 * l.l.branch.number + 4
 abbrev pub decreases-eq_reversed : goal.decreases-eq_reversed
 decreases-eq_reversed l = 8 * l.l.branch.number + 3
 
+abbrev pub decreases-over_words : goal.decreases-over_words
+decreases-over_words l = 8 * l.l.branch.number + 1
+
 abbrev pub decreases-over : goal.decreases-over
 decreases-over l = 8 * l.l.branch.number
 
@@ -36,4 +39,4 @@ abbrev pub decreases-eq_stmt : goal.decreases-eq_stmt
 decreases-eq_stmt l = 8 * l.l.branch.number + 5
 
 abbrev pub invariant-over-loop-x : goal.invariant-over-loop-x
-invariant-over-loop-x l = Going l.l.branch.words.now l.l.node l.r.branch.words.now l.r.node l.initial.t l.t (length l.yielded)
+invariant-over-loop-x l = Going l.l.branch.rule.words.now l.l.node l.r.branch.rule.words.now l.r.node l.initial.t l.t (length l.yielded)

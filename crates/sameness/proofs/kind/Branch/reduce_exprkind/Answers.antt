@@ -15,18 +15,18 @@ returns-then-node-ne-BLOCK_EXPR c =
     let s = c.args.self in
     let e = c.node-node.ensures in
     let n = c.node-node.result in
-    let k : shape n.code (kids_bare s.words.now n) ≡ kept =
+    let k : shape n.code (kids_bare s.rule.words.now n) ≡ kept =
     elim c.then-node-ne-BLOCK_EXPR.branch [
       | then-node-ne-BLOCK_EXPR-via-then-node-ne-BLOCK_EXPR w ↦ shape-code _ _ w.if-node-ne-BLOCK_EXPR.true
       | then-node-ne-BLOCK_EXPR-via-else-node-ne-BLOCK_EXPR+then-node-ne1 w ↦ shape-kids _ _ _ w.if-node-ne1.true
     ] in
     record {
-      tree = kind-kept _ _ s.read s.treelike _ s.within _ e k;
-      held = kind-held _ _ s.read s.treelike _ s.within _ e s.low;
+      tree = kind-kept _ _ s.rule.read s.treelike _ s.within _ e k;
+      held = kind-held _ _ s.rule.read s.treelike _ s.within _ e s.low;
     }
 
 pub invariant_of-side : goal.invariant_of-side
-invariant_of-side c = let s = c.args.self in record { held = kind-held _ _ s.read s.treelike _ s.within _ c.node-node.ensures s.low }
+invariant_of-side c = let s = c.args.self in record { held = kind-held _ _ s.rule.read s.treelike _ s.within _ c.node-node.ensures s.low }
 
 -- what the block comes to, if not itself, and else the node k
 made : (Q : Node → Type 0) (ws : List ℕ) (block : Tree) (top : ℕ) (k : Node) (r : Option Node)
@@ -37,20 +37,20 @@ made Q ws block top k (Some m) h a b = b m h
 pub returns : goal.returns
 returns c =
     let s = c.args.self in
-    let ws = s.words.now in
+    let ws = s.rule.words.now in
     let i = s.number in
     let n = c.node-node.result in
     let e = c.node-node.ensures in
-    let h = kind-held _ _ s.read s.treelike _ s.within _ e s.low in
+    let h = kind-held _ _ s.rule.read s.treelike _ s.within _ e s.low in
     let b : get_or n.kids.now 0 0 < i = h.below 0 (omega arith) in
     let o = kids-one ws n.kids.now c.if-node-ne1.false in
-    let t = kind-node _ _ s.read s.treelike _ s.within _ e _ _ _ _ c.if-node-ne-BLOCK_EXPR.false refl refl o in
+    let t = kind-node _ _ s.rule.read s.treelike _ s.within _ e _ _ _ _ c.if-node-ne-BLOCK_EXPR.false refl refl o in
     let m : Made ws (tree_at ws (get_or n.kids.now 0 0)) (get_or n.kids.now 0 0) c.reduce_block.result =
     rw (c.child.ensures.words, c.child.ensures.number) at c.reduce_block.ensures in
     let Q : Node → Type 0 = λ k. (tree_in ws k ≡ reduce (tree_at ws i)) × Held ws k i in
     let q : Q c.unwrap_or.result =
     subst Q (sym c.unwrap_or.ensures)
     (made Q ws _ _ n c.reduce_block.result m
-    (λ k. (kind-kept _ _ s.read s.treelike _ s.within _ e (shape-block _ _ _ c.if-node-ne-BLOCK_EXPR.false o k), h))
+    (λ k. (kind-kept _ _ s.rule.read s.treelike _ s.within _ e (shape-block _ _ _ c.if-node-ne-BLOCK_EXPR.false o k), h))
     (λ k d. (d.tree _ _ ∙ ap reduce (sym t), held_up _ _ _ _ (omega (arith, b)) d.held))) in
     record { tree = q.0; held = q.1 }
