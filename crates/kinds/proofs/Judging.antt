@@ -4,9 +4,9 @@ use Rattle.std.specs.Prelude.{IsTrue, ◌↔◌}
 use Rattle.std.specs.Result.{result_unwrap_or}
 use Rattle.rule.specs.declared.fault.Fault.{Fault}
 use Rattle.rule.specs.Faults.{number_of}
-use Rattle.sameness.specs.declared.compare.CompareFault.{CompareFault}
-use Rattle.sameness.specs.declared.compare.CompareFault.TheVariants.{First, Second, PairTable}
-use Rattle.sameness.specs.Comparing.{Compared, Unsound}
+use Rattle.sameness.specs.declared.compare.Unfit.{Unfit}
+use Rattle.sameness.specs.declared.compare.Unfit.TheVariants.{First, Second}
+use Rattle.sameness.specs.Comparing.{ComparedOver, Unsound}
 use Rattle.feed.proofs.Steps.{hash-rule}
 use Rattle.feed.specs.Hashed.{Hashed}
 use Rattle.catalogue.specs.Kinds.{SoundBy}
@@ -16,13 +16,12 @@ unsound-not : (ws : List ℕ) (f : Fault) → SoundBy meets_rule ws → Unsound 
 unsound-not ws f sound refused = sound (number_of f) (f, refl, refused.0.met)
 
 -- they are compared, whatever is said of others
-pub compared-sound : (ws us ps qs : List ℕ) (r : Result Bool CompareFault) (b : Bool) → Compared ws us ps qs r → b ≡ result_unwrap_or r false → 2048 ≤ length ps
+pub compared-sound : (ws us ps qs : List ℕ) (r : Result Bool Unfit) (b : Bool) → ComparedOver ws us ps qs r → b ≡ result_unwrap_or r false
     → SoundBy meets_rule ws → SoundBy meets_rule us → (IsTrue b ↔ same_rule ws us)
-compared-sound ws us ps qs (Ok true) b c e room _ _ = (λ _. c.3.same, λ _. e)
-compared-sound ws us ps qs (Ok false) b c e room _ _ = (λ t. absurd (cc), λ s. absurd (c.3.differ s))
-compared-sound ws us ps qs (Err (First f)) b c e room x y = absurd (unsound-not ws f x c.0)
-compared-sound ws us ps qs (Err (Second f)) b c e room x y = absurd (unsound-not us f y c.1)
-compared-sound ws us ps qs (Err PairTable) b c e room x y = absurd (omega (arith, c.2))
+compared-sound ws us ps qs (Ok true) b c e _ _ = (λ _. c.2.same, λ _. e)
+compared-sound ws us ps qs (Ok false) b c e _ _ = (λ t. absurd (cc), λ s. absurd (c.2.differ s))
+compared-sound ws us ps qs (Err (First f)) b c e x y = absurd (unsound-not ws f x c.0)
+compared-sound ws us ps qs (Err (Second f)) b c e x y = absurd (unsound-not us f y c.0.1)
 
 -- and hashed
 pub hashed-sound : (f : List ℕ → ℕ) (ws : List ℕ) (r : Result ℕ Fault) (h : ℕ) → Hashed f ws r → h ≡ result_unwrap_or r 0 → SoundBy meets_rule ws → h ≡ f (rule_feed f ws)

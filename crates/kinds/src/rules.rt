@@ -21,7 +21,8 @@ use hashing::hasher::Hasher;
 use rule::fault::Fault;
 use rule::intake::intake_entry;
 use rule::nodes::MOST_WORDS;
-use sameness::compare;
+use sameness::compare::compare_over;
+use trial::pairs::{NONE, PLACES};
 
 /// Why a run of words is no rule that can be entered.
 #[derive(Clone, Copy)]
@@ -80,8 +81,7 @@ impl Kind for Rules {
     }
 
     fn compare(&self, a: &[u32], b: &[u32]) -> bool {
-        // Kept: the pair table is an array, since this crate uses no heap.
-        compare::compare(a, b, &mut [0; 2048]).unwrap_or(false)
+        compare_over(a, b, &mut [NONE; PLACES]).unwrap_or(false)
     }
 
     fn hash<H: Hasher>(&self, run: &[u32]) -> u64 {

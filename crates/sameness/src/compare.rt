@@ -1,21 +1,39 @@
 // Two runs of words compared as rules.
 ghost use Rattle.std.specs.Prelude.{◌≡◌};
+ghost use Rattle.rule.specs.Intake.{Accepted};
 ghost use Rattle.rule.specs.Trees.{tree_of};
-ghost use Rattle.sameness.specs.Comparing.{Compared, Judged, Sound, compare_number};
+ghost use Rattle.sameness.specs.Comparing.{BothAs, Compared, ComparedOver, Judged, compare_number, unfit_number};
+ghost use Rattle.sameness.specs.Sides.{IsRoot};
 
 use crate::eq::eq_node;
 use crate::kind::Branch;
 use rule::fault::Fault;
 use rule::intake::intake;
-use rule::nodes::Rule;
+use rule::nodes::{Nodes, Rule};
 use trial::pairs::{PLACES, clear};
 
-// Why two runs are not compared: one of them is no rule, or the pair table has fewer than 2,048 words.
+/// Which of two runs of words is no rule, and why.
 #[derive(Clone, Copy)]
-pub enum CompareFault {
+pub enum Unfit {
     First(Fault),
     Second(Fault),
+}
+
+/// Why two runs are not compared: one of them is no rule, or the pair table has fewer than 2,048 words.
+#[derive(Clone, Copy)]
+pub enum CompareFault {
+    Unfit(Unfit),
     PairTable,
+}
+
+impl Unfit {
+    pub fn number(self) -> u8
+        ensures { result ≡ unfit_number self }
+    {
+        match self {
+            Unfit::First(fault) | Unfit::Second(fault) => fault.number(),
+        }
+    }
 }
 
 impl CompareFault {
@@ -23,33 +41,60 @@ impl CompareFault {
         ensures { result ≡ compare_number self }
     {
         match self {
-            CompareFault::First(fault) => fault.number(),
-            CompareFault::Second(fault) => fault.number(),
+            CompareFault::Unfit(unfit) => unfit.number(),
             CompareFault::PairTable => 23,
         }
     }
 }
 
+impl From<Unfit> for CompareFault {
+    ghost use Rattle.std.specs.Prelude.{◌≡◌};
+    ghost use Rattle.sameness.specs.declared.compare.CompareFault.TheVariants.{Unfit as ByUnfit};
+
+    ghost from_gives = { λ unfit fault. fault ≡ ByUnfit unfit };
+
+    fn from(unfit: Unfit) -> CompareFault {
+        CompareFault::Unfit(unfit)
+    }
+}
+
+// The root of a rule, with all that is below it.
+fn root_of<'w, 'p>(words: &'w [u32], nodes: &'p Nodes) -> Branch<'w, 'p>
+    requires { Accepted 6 words.now nodes.now }
+    ensures words { result.rule.words.now ≡ words.now }
+    ensures root { IsRoot result }
+{
+    let rule = Rule {
+        words,
+        at: nodes.places(),
+    };
+    Branch {
+        rule,
+        number: rule.root(),
+    }
+}
+
 // Two rules compared over a table of 2,048 words.
-fn judge_rules(a: Rule, b: Rule, t: &mut [u32; PLACES]) -> bool
-    requires first { Sound a.words.now }
-    requires second { Sound b.words.now }
-    ensures { Judged result (tree_of a.entry.words.now) (tree_of b.entry.words.now) t.new }
+fn judge_rules(x: Branch, y: Branch, t: &mut [u32; PLACES]) -> bool
+    requires first { IsRoot x }
+    requires second { IsRoot y }
+    ensures { Judged result (tree_of x.entry.rule.words.now) (tree_of y.entry.rule.words.now) t.new }
 {
     clear(t);
-    let x = Branch {
-        rule: a,
-        number: a.root(),
-    };
-    let y = Branch {
-        rule: b,
-        number: b.root(),
-    };
     if eq_node(t, x, y) {
         return true;
     }
     clear(t);
     false
+}
+
+// The places of the nodes of two rules; the first run is tested first.
+fn intake_both(first: &[u32], second: &[u32]) -> Result<(Nodes, Nodes), Unfit>
+    ensures { BothAs first.now second.now result }
+{
+    let a = intake(first).map_err(Unfit::First)?;
+    let b = intake(second).map_err(Unfit::Second)?;
+    Ok((a, b))
 }
 
 // Whether two rules are the same. Where they are, the pair table has the renaming: place l the partner of local l of the
@@ -58,16 +103,15 @@ fn judge_rules(a: Rule, b: Rule, t: &mut [u32; PLACES]) -> bool
 pub fn compare(first: &[u32], second: &[u32], pairs: &mut [u32]) -> Result<bool, CompareFault>
     ensures { Compared first.now second.now pairs.old pairs.new result }
 {
-    let a = intake(first).map_err(CompareFault::First)?;
-    let b = intake(second).map_err(CompareFault::Second)?;
+    let (a, b) = intake_both(first, second)?;
     let table = pairs.first_chunk_mut().ok_or(CompareFault::PairTable)?;
-    let l = Rule {
-        words: first,
-        at: a.places(),
-    };
-    let r = Rule {
-        words: second,
-        at: b.places(),
-    };
-    Ok(judge_rules(l, r, table))
+    Ok(judge_rules(root_of(first, &a), root_of(second, &b), table))
+}
+
+/// The same over a table that is long enough.
+pub fn compare_over(first: &[u32], second: &[u32], table: &mut [u32; PLACES]) -> Result<bool, Unfit>
+    ensures { ComparedOver first.now second.now table.old table.new result }
+{
+    let (l, r) = intake_both(first, second)?;
+    Ok(judge_rules(root_of(first, &l), root_of(second, &r), table))
 }
