@@ -1,2 +1,1 @@
-mod Refusals
 pub mod Tails
