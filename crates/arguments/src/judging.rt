@@ -1,5 +1,6 @@
 // What the arguments of the commands that judge rules ask for: help, check, compare and change, and nothing of hashes or catalogues.
 ghost use Rattle.arguments.specs.Judging.{JudgingAs};
+ghost use Rattle.arguments.specs.Texts.{said_with_help};
 
 use crate::command::Command;
 use crate::files::{alone, one_file, table_and_names, two_tables};
@@ -24,6 +25,8 @@ TABLE, OLD and NEW are files, or - for standard input, at most one of them.";
 pub struct WithHelp<'a>(pub Misuse<'a>);
 
 impl<'a> fmt::Display for WithHelp<'a> {
+    ghost output = { λ w. said_with_help w.0 };
+
     fn fmt<W: fmt::Write>(&self, f: &mut fmt::Formatter<W>) -> fmt::Result {
         write!(f, "{}\n{HELP}", self.0)
     }
