@@ -1,1 +1,2 @@
+mod Answerable
 pub mod Tails

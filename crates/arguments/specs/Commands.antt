@@ -6,7 +6,7 @@ use Rattle.arguments.specs.Hashers.{HashedAs}
 use Rattle.arguments.specs.Judging.{CommandRefused, JudgingAs, Unjudging}
 use Rattle.arguments.specs.Misuses.{Finds, Is}
 use Rattle.arguments.specs.declared.command.Command.{Command}
-use Rattle.arguments.specs.declared.command.Command.TheVariants.{Help, Check, Compare, Change, Hash, Classes, Replay}
+use Rattle.arguments.specs.declared.command.Command.TheVariants.{Hash, Classes, Replay}
 use Rattle.arguments.specs.declared.misuse.Expected.TheVariants.{Command as NoCommand}
 use Rattle.arguments.specs.declared.misuse.Misuse.{Misuse}
 
@@ -28,11 +28,8 @@ RefusedAs args m =
     (Unknown args × Finds {A = Unit {0}} NoCommand (Is args 1) (Err m))
 
 abbrev pub ParsedAs : List (String Global) → Result Command Misuse → Type 0
-ParsedAs args (Ok Help) = JudgingAs args (Ok Help)
-ParsedAs args (Ok (Check table)) = JudgingAs args (Ok (Check table))
-ParsedAs args (Ok (Compare asked)) = JudgingAs args (Ok (Compare asked))
-ParsedAs args (Ok (Change asked)) = JudgingAs args (Ok (Change asked))
 ParsedAs args (Ok (Hash asked)) = Is args 1 (codes "hash") × HashedAs (drop 2 args) (Ok asked)
 ParsedAs args (Ok (Classes asked)) = Is args 1 (codes "classes") × HashedAs (drop 2 args) (Ok asked)
 ParsedAs args (Ok (Replay script)) = Is args 1 (codes "replay") × ScriptAs (drop 2 args) (Ok script)
+ParsedAs args (Ok command) = JudgingAs args (Ok command)
 ParsedAs args (Err misuse) = RefusedAs args misuse

@@ -5,8 +5,9 @@ use Rattle.arguments.specs.Files.{AloneAs, ChangedAs, ComparedAs, TableAs}
 use Rattle.arguments.specs.Misuses.{Finds, Helping, Is}
 use Rattle.arguments.specs.declared.command.Command.{Command}
 use Rattle.arguments.specs.declared.command.Command.TheVariants.{Help, Check, Compare, Change, Hash, Classes, Replay}
-use Rattle.arguments.specs.declared.misuse.Expected.TheVariants.{Command as NoCommand}
+use Rattle.arguments.specs.declared.misuse.Expected.TheVariants.{Command as NoCommand, Table, Names, NewTable, File, NoMore}
 use Rattle.arguments.specs.declared.misuse.Misuse.{Misuse}
+use Rattle.arguments.specs.declared.misuse.Misuse.TheVariants.{Missing, Other}
 
 -- the word at 1 is none of the commands that judge rules
 abbrev pub Unjudging : List (String Global) → Type 0
@@ -35,3 +36,14 @@ JudgingAs args (Ok (Hash asked)) = ⊥
 JudgingAs args (Ok (Classes asked)) = ⊥
 JudgingAs args (Ok (Replay script)) = ⊥
 JudgingAs args (Err m) = CommandRefused args m ⊎ (Unjudging args × Finds {A = Unit {0}} NoCommand (Is args 1) (Err m))
+
+-- the misuses that are ever answered
+abbrev pub Answerable : Misuse → Type 0
+Answerable (Missing Table) = Unit {0}
+Answerable (Missing Names) = Unit {0}
+Answerable (Missing NewTable) = Unit {0}
+Answerable (Missing expected) = ⊥
+Answerable (Other NoCommand word) = Unit {0}
+Answerable (Other File word) = Unit {0}
+Answerable (Other NoMore word) = Unit {0}
+Answerable (Other expected word) = ⊥

@@ -21,7 +21,7 @@ usage: judge COMMAND
 TABLE, OLD and NEW are files, or - for standard input, at most one of them.";
 
 // A misuse, and the help below it.
-#[derive(Clone, Copy, Debug, PartialEq, Eq)]
+#[derive(Clone, Copy, Debug)]
 pub struct WithHelp<'a>(pub Misuse<'a>);
 
 impl<'a> fmt::Display for WithHelp<'a> {

@@ -6,20 +6,17 @@ use Rattle.arguments.specs.Hashers.{HashedAs}
 use Rattle.arguments.specs.Judging.{JudgingAs}
 use Rattle.arguments.specs.Misuses.{Is}
 use Rattle.arguments.specs.declared.command.Command.{Command}
-use Rattle.arguments.specs.declared.command.Command.TheVariants.{Help, Check, Compare, Change, Hash, Classes, Replay}
+use Rattle.arguments.specs.declared.command.Command.TheVariants.{Hash, Classes, Replay}
 use Rattle.arguments.specs.declared.misuse.Misuse.{Misuse}
 use Rattle.arguments.proofs.Tails.{read_as, refused}
 use Rattle.arguments.proofs.command.parse_args.Goals as goal
 
 -- what is neither of hashes nor of a catalogue is read as by the commands that judge rules
 judged : (args : List (String Global)) (r : Result Command Misuse) → (Is args 1 (codes "hash") → ⊥) → (Is args 1 (codes "classes") → ⊥) → (Is args 1 (codes "replay") → ⊥) → JudgingAs args r → ParsedAs args r
-judged args (Ok Help) h c s j = j
-judged args (Ok (Check table)) h c s j = j
-judged args (Ok (Compare asked)) h c s j = j
-judged args (Ok (Change asked)) h c s j = j
 judged args (Ok (Hash asked)) h c s j = absurd j
 judged args (Ok (Classes asked)) h c s j = absurd j
 judged args (Ok (Replay script)) h c s j = absurd j
+judged args (Ok command) h c s j = j
 judged args (Err m) h c s (inl refusal) = inl refusal
 judged args (Err m) h c s (inr (unjudging, found)) = inr (inr (inr (inr ((unjudging, h, c, s), found))))
 
