@@ -1,2 +1,2 @@
-mod Answerable
+pub mod Answerable
 pub mod Tails

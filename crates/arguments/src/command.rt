@@ -37,7 +37,7 @@ pub enum Command<'a> {
     Replay(&'a str),
 }
 
-// The first of the arguments is the program's own name.
+// The first of the arguments is the program's own name. What is neither of hashes nor of a catalogue is read as by the commands that judge rules.
 #[tactic(auto, using(crate::proofs::Tails::tail_is))]
 pub fn parse_args(args: &[String]) -> Result<Command<'_>, Misuse<'_>>
     ensures { ParsedAs args.now result }
