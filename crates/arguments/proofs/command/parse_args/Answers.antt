@@ -28,19 +28,19 @@ returns-in_ok-table_and_hasher-in-classes c = (search rules, read_as HashedAs _ 
 
 pub returns-in_err-table_and_hasher-in-hash : goal.returns-in_err-table_and_hasher-in-hash
 returns-in_err-table_and_hasher-in-hash c =
-    refused (ParsedAs c.args.args.now) c.from_residual.result c.from_residual.ensures.1
+    refused (ParsedAs _) _ c.from_residual.ensures.1
     (inr (inl (search rules, read_as HashedAs _ c.in_err-table_and_hasher-in-hash.was c.table_and_hasher.ensures)))
 
 pub returns-in_err-table_and_hasher-in-classes : goal.returns-in_err-table_and_hasher-in-classes
 returns-in_err-table_and_hasher-in-classes c =
-    refused (ParsedAs c.args.args.now) c.from_residual-in_err-table_and_hasher-in-classes.result c.from_residual-in_err-table_and_hasher-in-classes.ensures.1
+    refused (ParsedAs _) _ c.from_residual-in_err-table_and_hasher-in-classes.ensures.1
     (inr (inr (inl (search rules, read_as HashedAs _ c.in_err-table_and_hasher-in-classes.was c.table_and_hasher-in-classes.ensures))))
 
 pub returns-in_err-one_file-in-replay : goal.returns-in_err-one_file-in-replay
 returns-in_err-one_file-in-replay c =
-    refused (ParsedAs c.args.args.now) c.from_residual-in_err-one_file-in-replay.result c.from_residual-in_err-one_file-in-replay.ensures.1
+    refused (ParsedAs _) _ c.from_residual-in_err-one_file-in-replay.ensures.1
     (inr (inr (inr (inl ((omega arith, λ d. cc (get_or_default c.args.args.now 1 c.word-item.result d (omega arith))), read_as ScriptAs _ c.in_err-one_file-in-replay.was c.one_file.ensures)))))
 
 pub returns-in_default-as_str : goal.returns-in_default-as_str
 returns-in_default-as_str c =
-    judged c.args.args.now c.parse_args-in_default-as_str.result (search rules) (search rules) (search rules) c.parse_args-in_default-as_str.ensures
+    judged _ _ (search rules) (search rules) (search rules) c.parse_args-in_default-as_str.ensures

@@ -6,10 +6,10 @@ use Rattle.arguments.proofs.judging.parse_args.Goals as goal
 
 pub returns-in_err-table_and_names-in-compare : goal.returns-in_err-table_and_names-in-compare
 returns-in_err-table_and_names-in-compare c =
-    refused (JudgingAs c.args.args.now) c.from_residual-in_err-table_and_names-in-compare.result c.from_residual-in_err-table_and_names-in-compare.ensures.1
+    refused (JudgingAs _) _ c.from_residual-in_err-table_and_names-in-compare.ensures.1
     (inl (inr (inr (inl (search rules, read_as ComparedAs _ c.in_err-table_and_names-in-compare.was c.table_and_names.ensures)))))
 
 pub returns-in_err-two_tables-in-change : goal.returns-in_err-two_tables-in-change
 returns-in_err-two_tables-in-change c =
-    refused (JudgingAs c.args.args.now) c.from_residual-in_err-two_tables-in-change.result c.from_residual-in_err-two_tables-in-change.ensures.1
+    refused (JudgingAs _) _ c.from_residual-in_err-two_tables-in-change.ensures.1
     (inl (inr (inr (inr (search rules, read_as ChangedAs _ c.in_err-two_tables-in-change.was c.two_tables.ensures)))))
