@@ -1,2 +1,2 @@
-mod Refusals
+pub mod Answerable
 pub mod Tails

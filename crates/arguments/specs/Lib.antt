@@ -4,4 +4,3 @@ pub mod Hashers
 pub mod Judging
 pub mod Misuses
 pub mod Texts
-pub mod Told

@@ -1,8 +1,9 @@
 // The commands.
 ghost use Rattle.arguments.specs.Commands.{ParsedAs};
 
-use crate::files::{Changed, Compared, alone, one_file, table_and_names, two_tables};
+use crate::files::{Changed, Compared, one_file};
 use crate::hashed::{Hashed, table_and_hasher};
+use crate::judging;
 use crate::misuse::{Expected, Misuse};
 
 pub const HELP: &str = "\
@@ -36,25 +37,18 @@ pub enum Command<'a> {
     Replay(&'a str),
 }
 
-// The first of the arguments is the program's own name.
+// The first of the arguments is the program's own name. What is neither of hashes nor of a catalogue is read as by the commands that judge rules.
 #[tactic(auto, using(crate::proofs::Tails::tail_is))]
 pub fn parse_args(args: &[String]) -> Result<Command<'_>, Misuse<'_>>
     ensures { ParsedAs args.now result }
 {
     let [_, word, rest @ ..] = args else {
-        return Ok(Command::Help);
+        return judging::parse_args(args);
     };
     match word.as_str() {
-        "help" | "--help" => {
-            alone(rest)?;
-            Ok(Command::Help)
-        }
-        "check" => Ok(Command::Check(one_file(rest, Expected::Table)?)),
-        "compare" => Ok(Command::Compare(table_and_names(rest)?)),
-        "change" => Ok(Command::Change(two_tables(rest)?)),
         "hash" => Ok(Command::Hash(table_and_hasher(rest)?)),
         "classes" => Ok(Command::Classes(table_and_hasher(rest)?)),
         "replay" => Ok(Command::Replay(one_file(rest, Expected::Script)?)),
-        other => Err(Misuse::Other(Expected::Command, other)),
+        _ => judging::parse_args(args),
     }
 }

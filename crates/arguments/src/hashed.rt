@@ -16,22 +16,22 @@ pub fn table_and_hasher(rest: &[String]) -> Result<Hashed<'_>, Misuse<'_>>
 {
     match rest {
         [] => Err(Misuse::Missing(Expected::Table)),
-        [option] if option.as_str() == "--hasher" => Err(Misuse::Missing(Expected::Hasher)),
+        [option, rest @ ..] if option.as_str() == "--hasher" => match rest {
+            [] => Err(Misuse::Missing(Expected::Hasher)),
+            [_] => Err(Misuse::Missing(Expected::Table)),
+            [name, table] => hashed_by(name.as_str(), table.as_str()),
+            [_, _, more, ..] => Err(Misuse::Other(Expected::NoMore, more.as_str())),
+        },
         [table] => Ok(Hashed {
             table: table.as_str(),
             hasher: HasherName::Rotating,
         }),
-        [first, second, ..] if first.as_str() != "--hasher" && second.as_str() != "--hasher" => {
-            Err(Misuse::Other(Expected::NoMore, second.as_str()))
-        }
-        // from here on one of the first two is the option
-        [option, _] if option.as_str() == "--hasher" => Err(Misuse::Missing(Expected::Table)),
-        [_, _] => Err(Misuse::Missing(Expected::Hasher)),
-        [option, name, table] if option.as_str() == "--hasher" => {
-            hashed_by(name.as_str(), table.as_str())
-        }
-        [table, _, name] => hashed_by(name.as_str(), table.as_str()),
-        [_, _, _, more, ..] => Err(Misuse::Other(Expected::NoMore, more.as_str())),
+        [table, option, rest @ ..] if option.as_str() == "--hasher" => match rest {
+            [] => Err(Misuse::Missing(Expected::Hasher)),
+            [name] => hashed_by(name.as_str(), table.as_str()),
+            [_, more, ..] => Err(Misuse::Other(Expected::NoMore, more.as_str())),
+        },
+        [_, more, ..] => Err(Misuse::Other(Expected::NoMore, more.as_str())),
     }
 }
 

@@ -1,6 +1,6 @@
 // What is wrong with the arguments.
 ghost use Rattle.std.specs.Prelude.{Some};
-ghost use Rattle.arguments.specs.Texts.{text_of};
+ghost use Rattle.arguments.specs.Texts.{said, text_of};
 
 use std::error::Error;
 use std::fmt;
@@ -44,6 +44,8 @@ impl fmt::Display for Expected {
 }
 
 impl<'a> fmt::Display for Misuse<'a> {
+    ghost output = { said };
+
     fn fmt<W: fmt::Write>(&self, f: &mut fmt::Formatter<W>) -> fmt::Result {
         match self {
             Misuse::Missing(expected) => write!(f, "expected {expected}"),

@@ -1,6 +1,6 @@
 // What arguments are read as, and what is said where they are wrong.
 use crate::command::parse_args;
-use crate::judging::{self, HELP};
+use crate::judging::{self, HELP, WithHelp};
 use std::alloc::{AllocError, Global};
 use std::fmt;
 use std::process::Abort;
@@ -156,7 +156,7 @@ fn judges(rt: &impl Abort, heap: Global, line: &str, expected: &str) -> Result<(
     prints(
         rt,
         heap,
-        &judging::parse_args(args.as_slice()),
+        &judging::parse_args(args.as_slice()).map_err(WithHelp),
         expected,
         help.as_str(),
     )
@@ -174,14 +174,14 @@ fn reads_commands_that_judge(rt: HostRuntime) -> Result<(), Fail> {
     judges(&rt, heap, "judge --help", "Help")?;
     judges(&rt, heap, "judge help x", more)?;
     judges(&rt, heap, "judge --help x", more)?;
-    judges(&rt, heap, "judge check t", "Check { table: \"t\" }")?;
+    judges(&rt, heap, "judge check t", "Check(\"t\")")?;
     judges(&rt, heap, "judge check", table)?;
     judges(&rt, heap, "judge check t x", more)?;
     judges(
         &rt,
         heap,
         "judge compare t a b",
-        "Compare { table: \"t\", first: \"a\", second: \"b\" }",
+        "Compare(Compared { table: \"t\", first: \"a\", second: \"b\" })",
     )?;
     judges(&rt, heap, "judge compare", table)?;
     judges(&rt, heap, "judge compare t", names)?;
@@ -191,13 +191,13 @@ fn reads_commands_that_judge(rt: HostRuntime) -> Result<(), Fail> {
         &rt,
         heap,
         "judge change - new",
-        "Change { old: \"-\", new: \"new\" }",
+        "Change(Changed { old: \"-\", new: \"new\" })",
     )?;
     judges(
         &rt,
         heap,
         "judge change old -",
-        "Change { old: \"old\", new: \"-\" }",
+        "Change(Changed { old: \"old\", new: \"-\" })",
     )?;
     judges(&rt, heap, "judge change", table)?;
     judges(
