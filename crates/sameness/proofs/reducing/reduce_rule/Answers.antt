@@ -1,11 +1,11 @@
-use Rattle.std.proofs.Common.{◌≡◌, ◌<◌, List, length, set, take, sym, refl, ◌∙◌, subst, arith, length-take, below_more}
-use Rattle.std.proofs.lemmas.List.{length-replicate, get_or-set_same, get_or-set_other, get_or_append_left}
+use Rattle.std.proofs.Common.{◌≡◌, List, length, take, sym, refl, ◌∙◌, subst, arith, length-take}
+use Rattle.std.proofs.lemmas.List.{length-replicate, get_or_append_left}
 use Rattle.rule.specs.declared.fault.Fault.TheVariants.{NotATree}
 use Rattle.rule.specs.declared.nodes.Node.{Node}
 use Rattle.rule.specs.Intake.{Read}
 use Rattle.rule.proofs.Grounds.{accepted-read}
 use Rattle.rule.proofs.Laid.{read-nodes}
-use Rattle.sameness.specs.Reducing.{NodeReduced, no_kind, kind_in}
+use Rattle.sameness.specs.Reducing.{NodeReduced, no_kind}
 use Rattle.sameness.proofs.Judging.{last-in}
 use Rattle.sameness.proofs.Lows.{node-low}
 use Rattle.sameness.proofs.reducing.reduce_rule.Goals as goal
@@ -19,17 +19,6 @@ invariant_of-reduce_exprkind c =
     let d : Read c.args.words.now c.places.result.now = rw c.places.ensures (accepted-read 6 _ _ _ (omega arith) a refl) in
     let z : length c.loop-number.kind-items ≡ length c.places.result.now = c.loop-number.auto.kind-items ∙ simp (length-take, length-replicate) (omega arith) in
     record { within = omega arith; treelike = a.passes NotATree (omega arith); low = node-low _ _ d a.passes _ (omega arith) }
-
-pub loop-number-preserved : goal.loop-number-preserved
-loop-number-preserved c =
-    let ws = c.args.words.now in
-    let ks : List Node = c.loop-number.kind-items in
-    let i = c.loop-number.number in
-    let k : Node = c.reduce_exprkind.result in
-    let e = c.reduce_exprkind.ensures in
-    below_more (λ j. NodeReduced ws j (kind_in (set ks i k) j)) i
-    (λ j b. subst (NodeReduced ws j) (sym (get_or-set_other ks i j k no_kind (λ e. omega arith))) (c.loop-number.invariant j b))
-    (subst (NodeReduced ws i) (sym (get_or-set_same ks i k no_kind (omega arith))) (record { tree = e.tree; within = e.held.within; below = e.held.below }))
 
 pub returns-clause-ok : goal.returns-clause-ok
 returns-clause-ok c =
