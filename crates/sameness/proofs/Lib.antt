@@ -14,7 +14,6 @@ pub mod Theorems
 pub mod Computed
 pub mod Trials
 pub mod Untested
-pub mod Standing
 pub mod Shown
 pub mod Outcomes
 pub mod Walks

@@ -8,7 +8,7 @@ use Rattle.rule.specs.Trees.{Tree, Forest, nil, cons, tree_at}
 use Rattle.sameness.specs.Reduction.{reduce, reduce_all}
 use Rattle.sameness.specs.Sameness.{pair}
 use Rattle.sameness.specs.Deciding.{Table, Outcome, fails, holds, and_then, or_else, given, direct_test, reversed_test, exchanging, decide, decide_all}
-use Rattle.sameness.specs.Walking.{trees_at, kids_in, tree_in, Pictured, Answers, KindsWalked, Walked, KidsWalked, NodesWalked, BothWalked, FirstFails}
+use Rattle.sameness.specs.Walking.{trees_at, kids_in, tree_in, Pictured, Answers, KindsWalked, KidsWalked, NodesWalked, BothWalked, FirstFails}
 use Rattle.sameness.proofs.KindTrees.{kids-two}
 use Rattle.sameness.proofs.Outcomes.{two-readings}
 use Rattle.sameness.proofs.Steps.{decide_all-nil, decide_all-cons, decide_all-pair, exchanging-pair, reduce_all-nil, reduce_all-cons}
@@ -102,16 +102,6 @@ module _ (wa : List ℕ) (l : Node) (wb : List ℕ) (r : Node) (t₀ : List ℕ)
 ---- two nodes and then two more
 
 module _ (a b u v : Tree) where
-  pub both-then : (t t' t'' : List ℕ) (res : Bool) → Walked (λ P. decide (reduce a) (reduce u) P) t t' true → Walked (λ P. decide (reduce b) (reduce v) P) t' t'' res
-      → BothWalked a b u v t t'' res
-  both-then t t' t'' res w x =
-      record {
-        grows = extends-trans t t' t'' w.grows x.grows;
-        answers = λ P p.
-            let k = w.answers P p in
-            subst (λ o. Answers res t'' o) (sym (ap (λ o. and_then o (λ Q. decide (reduce b) (reduce v) Q)) k.1)) (x.answers k.0 k.2);
-      }
-
   -- the same trees by other names
   pub both-same : (a' b' u' v' : Tree) (t t' : List ℕ) (res : Bool) → a ≡ a' → b ≡ b' → u ≡ u' → v ≡ v' → BothWalked a b u v t t' res → BothWalked a' b' u' v' t t' res
   both-same a' b' u' v' t t' res e f g h w =

@@ -3,7 +3,7 @@ use Rattle.std.proofs.Common.{◌≡◌, ℕ, not, ◌&&◌, refl, ap}
 use Rattle.rule.specs.Trees.{Tree, Forest, node, nil, cons}
 use Rattle.rule.specs.Scopes.{declares, uses, plain, role}
 use Rattle.rule.specs.Intake.{barred}
-use Rattle.sameness.specs.Reduction.{empty, kept, shape, shaped, reduce, reduce_all}
+use Rattle.sameness.specs.Reduction.{kept, shape, shaped, reduce, reduce_all}
 use Rattle.sameness.specs.Sameness.{pair, clean, clean_all}
 use Rattle.sameness.specs.Deciding.{Table, add, fresh, matched, Outcome, fails, holds, and_then, or_else, given, direct_test, reversed_test, at_roles, exchanging, decide, decide_all}
 
@@ -63,19 +63,10 @@ at_roles-plain P = refl
 
 ---- reduction
 
-pub reduce-node : (c v w : ℕ) (ts : Forest) → reduce (node c v w ts) ≡ shaped (shape c ts) c v w (reduce_all ts)
-unfolding reduce reduce_all
-reduce-node c v w ts = refl
-
 -- a node that is kept
 pub reduce-kept : (c v w : ℕ) (ts : Forest) → shape c ts ≡ kept → reduce (node c v w ts) ≡ node c v w (reduce_all ts)
 unfolding reduce reduce_all shaped
 reduce-kept c v w ts e = ap (λ s. shaped s c v w (reduce_all ts)) e
-
--- an empty block
-pub reduce-empty : (c v w : ℕ) (ts : Forest) → shape c ts ≡ empty → reduce (node c v w ts) ≡ node 33 0 0 nil
-unfolding reduce reduce_all shaped
-reduce-empty c v w ts e = ap (λ s. shaped s c v w (reduce_all ts)) e
 
 pub reduce_all-nil : reduce_all nil ≡ nil
 unfolding reduce_all

@@ -25,7 +25,8 @@ fn eq_locals(t: &[u32; PLACES], x: u32, y: u32) -> bool
 }
 
 // Kept: each function of the cycle says for which codes it is. Of three facts eq_expr, eq_pat and eq_qpath say two each, and
-// no two of them the same two. Nor are the table and the two sides a struct: each call is of other sides.
+// no two of them the same two. The table stands beside the two sides: it is lent to be changed, and of a struct that held it
+// each function would have to say that it still holds the same one.
 
 // Two branches, as what they come to.
 #[cycle(eq_nodes)]

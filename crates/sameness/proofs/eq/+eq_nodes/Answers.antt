@@ -1,15 +1,12 @@
 use Rattle.std.proofs.Common.{rules, ◌≡◌, ℕ, ◌<◌, true, min, ◌⊎◌, length, get_or, sym, refl, ◌∙◌, subst, ap₂, inl, inr, arith, length-append}
 use Rattle.std.proofs.lemmas.Slice.Zip.{zip_turn, zip_end}
 use Rattle.rule.specs.Trees.{tree_at}
-use Rattle.sameness.proofs.Overs.{going_more, going-fails, going-all, over-unequal, first_holds, not-exchanged, few-operands, exchanged, both-then, both-same}
+use Rattle.sameness.proofs.Overs.{going_more, going-fails, going-all, over-unequal, first_holds, not-exchanged, few-operands, exchanged, both-same}
 use Rattle.sameness.specs.Walking.{Low, KindsWalked}
 use Rattle.sameness.proofs.Asking.{no-local, second-local, binding-low, local-low, nodes-named}
 use Rattle.sameness.proofs.Walks.{kinds-unequal, kinds-other, kinds-fail, kinds-plain, kinds-by, kinds-bound, kinds-taken, kinds-local}
 use Rattle.sameness.proofs.eq.+eq_nodes.Goals as goal
 use Rattle.sameness.proofs.eq.+eq_nodes.Goals.{over-In-Some, eq_reversed-then-l-ne2-via-then-l-ne2, eq_reversed-then-l-ne2-via-else-l-ne2+then-r-ne2}
-
-pub both-returns-then-eq_node : goal.both-returns-then-eq_node
-both-returns-then-eq_node t c = both-then _ _ _ _ _ _ _ _ c.if-eq_node.ensures c.eq_node-then-eq_node.ensures
 
 pub eq_part-returns-then-eq_words : goal.eq_part-returns-then-eq_words
 eq_part-returns-then-eq_words t c =

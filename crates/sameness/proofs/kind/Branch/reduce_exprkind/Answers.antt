@@ -1,11 +1,11 @@
-use Rattle.std.proofs.Common.{◌≡◌, ℕ, ◌<◌, List, get_or, Some, None, Option, sym, refl, ap, ◌∙◌, subst, arith}
+use Rattle.std.proofs.Common.{◌≡◌, ℕ, List, get_or, Some, None, Option, sym, refl, ap, ◌∙◌, subst}
 use Rattle.std.specs.Option.{unwrap_or}
 use Rattle.rule.specs.declared.nodes.Node.{Node}
 use Rattle.rule.specs.Trees.{Tree, tree_at}
 use Rattle.sameness.specs.Blocks.{Inner, Made}
 use Rattle.sameness.specs.Reduction.{kept, shape, shape_of_block, reduce}
-use Rattle.sameness.specs.Walking.{Held, tree_in}
-use Rattle.sameness.proofs.KindTrees.{kids_bare, kind-node, kind-kept, kind-held, kids-one, held_up}
+use Rattle.sameness.specs.Walking.{tree_in}
+use Rattle.sameness.proofs.KindTrees.{kids_bare, kind-node, kind-kept, kind-held, kids-one}
 use Rattle.sameness.proofs.BlockShapes.{shape-code, shape-kids, shape-block}
 use Rattle.sameness.proofs.kind.Branch.reduce_exprkind.Goals as goal
 use Rattle.sameness.proofs.kind.Branch.reduce_exprkind.Goals.{then-node-ne-BLOCK_EXPR-via-then-node-ne-BLOCK_EXPR, then-node-ne-BLOCK_EXPR-via-else-node-ne-BLOCK_EXPR+then-node-ne1}
@@ -34,23 +34,18 @@ made : (Q : Node → Type 0) (ws : List ℕ) (block : Tree) (top : ℕ) (k : Nod
 made Q ws block top k None h a b = a h
 made Q ws block top k (Some m) h a b = b m h
 
-pub returns : goal.returns
-returns c =
+pub returns-clause-tree : goal.returns-clause-tree
+returns-clause-tree c =
     let s = c.args.self in
     let ws = s.rule.words.now in
-    let i = s.number in
     let n = c.node-node.result in
     let e = c.node-node.ensures in
-    let h = kind-held _ _ s.rule.read s.treelike _ s.within _ e s.low in
-    let b : get_or n.kids.now 0 0 < i = h.below 0 (omega arith) in
     let o = kids-one ws n.kids.now c.if-node-ne1.false in
     let t = kind-node _ _ s.rule.read s.treelike _ s.within _ e _ _ _ _ c.if-node-ne-BLOCK_EXPR.false refl refl o in
     let m : Made ws (tree_at ws (get_or n.kids.now 0 0)) (get_or n.kids.now 0 0) c.reduce_block.result =
     rw (c.child.ensures.words, c.child.ensures.number) at c.reduce_block.ensures in
-    let Q : Node → Type 0 = λ k. (tree_in ws k ≡ reduce (tree_at ws i)) × Held ws k i in
-    let q : Q c.unwrap_or.result =
+    let Q : Node → Type 0 = λ k. tree_in ws k ≡ reduce (tree_at ws s.number) in
     subst Q (sym c.unwrap_or.ensures)
     (made Q ws _ _ n c.reduce_block.result m
-    (λ k. (kind-kept _ _ s.rule.read s.treelike _ s.within _ e (shape-block _ _ _ c.if-node-ne-BLOCK_EXPR.false o k), h))
-    (λ k d. (d.tree _ _ ∙ ap reduce (sym t), held_up _ _ _ _ (omega (arith, b)) d.held))) in
-    record { tree = q.0; held = q.1 }
+    (λ k. kind-kept _ _ s.rule.read s.treelike _ s.within _ e (shape-block _ _ _ c.if-node-ne-BLOCK_EXPR.false o k))
+    (λ k d. d.tree _ _ ∙ ap reduce (sym t)))
