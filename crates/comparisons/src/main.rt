@@ -2,7 +2,7 @@
 
 #![tactic(auto)]
 
-use sameness::compare::{CompareFault, compare};
+use sameness::compare::{Unfit, compare_over};
 use std::io;
 use std::io::Read;
 use tables::line::Entry;
@@ -34,7 +34,7 @@ fn answer_all(rt: &HostRuntime, entries: &[Entry]) -> io::Result<()> {
 
 fn answer(rt: &HostRuntime, first: &[u32], second: &[u32]) -> io::Result<()> {
     let mut pairs = [NONE; PLACES];
-    match compare(first, second, &mut pairs) {
+    match compare_over(first, second, &mut pairs) {
         Ok(true) => renaming(rt, &pairs[0..LOCALS]),
         Ok(false) => rt.println("different"),
         Err(fault) => refusal(rt, fault),
@@ -53,11 +53,11 @@ fn renaming(rt: &HostRuntime, partners: &[u32]) -> io::Result<()> {
     rt.println("")
 }
 
-fn refusal(rt: &HostRuntime, fault: CompareFault) -> io::Result<()> {
+// Kept: one line of this program alone. A Display would want a type here around the fault of another crate.
+fn refusal(rt: &HostRuntime, fault: Unfit) -> io::Result<()> {
     let which = match fault {
-        CompareFault::First(_) => "first",
-        CompareFault::Second(_) => "second",
-        CompareFault::PairTable => "table",
+        Unfit::First(_) => "first",
+        Unfit::Second(_) => "second",
     };
     println!(rt; "{which} refused {}", fault.number())
 }

@@ -32,27 +32,6 @@ shows-set P t x y k lx ly s =
     (get_or-set_same (set t x y) (1024 + y) x 0 (omega (arith, length-set t x y)))
     (λ i n m. get_or-set_other (set t x y) (1024 + y) i x 0 m ∙ get_or-set_other t x i y 0 n) s
 
--- a pair taken back: the locals had no partner before
-pub shows-drop : (P : Table) (t t' : List ℕ) (x y : ℕ) → x < 1024 → y < 1024 → fresh P x y ≡ true → get_or t' x 0 ≡ 4294967295 → get_or t' (1024 + y) 0 ≡ 4294967295
-    → ((i : ℕ) → (i ≡ x → ⊥) → (i ≡ 1024 + y → ⊥) → get_or t' i 0 ≡ get_or t i 0) → Shows (add x y P) t → Shows P t'
-unfolding ahead behind fresh
-shows-drop P t t' x y lx ly f ex ey h s =
-    record {
-      front = λ z l.
-          ⊎_elim (λ e. rw (e) (ex ∙ sym (ap entry (free-absent (ahead P x) p.0))))
-          (λ n. h z n (λ e. omega arith) ∙ (s.front z l ∙ ap (λ b. entry (cond b (found y) (ahead P z))) (ne_eqb x z (λ e. n (sym e))))) (cases_eq z x);
-      back = λ z l.
-          ⊎_elim (λ e. rw (e) (ey ∙ sym (ap entry (free-absent (behind P y) p.1))))
-          (λ n. h (1024 + z) (λ e. omega arith) (λ e. n (omega arith)) ∙ (s.back z l ∙ ap (λ b. entry (cond b (found x) (behind P z))) (ne_eqb y z (λ e. n (sym e))))) (cases_eq z y);
-    }
-  where
-    p : (is_free (ahead P x) ≡ true) × (is_free (behind P y) ≡ true)
-    p = and_parts (is_free (ahead P x)) (is_free (behind P y)) f
-
-    free-absent : (g : Found) → is_free g ≡ true → g ≡ absent
-    free-absent absent e = refl
-    free-absent (found a) e = absurd (let z : ◌≡◌ {A = ℕ} 0 1 = cc in omega arith)
-
 ---- tables of locals below 1024
 
 abbrev LowFound : Found → Type 0

@@ -6,7 +6,9 @@ use Rattle.rule.specs.Trees.{tree_of}
 use Rattle.sameness.specs.Sameness.{Same}
 use Rattle.sameness.specs.Comparing.{Compared, Sound}
 use Rattle.sameness.specs.declared.compare.CompareFault.{CompareFault}
-use Rattle.sameness.specs.declared.compare.CompareFault.TheVariants.{First, Second, PairTable}
+use Rattle.sameness.specs.declared.compare.CompareFault.TheVariants.{PairTable, Unfit as ByUnfit}
+use Rattle.sameness.specs.declared.compare.Unfit.{Unfit}
+use Rattle.sameness.specs.declared.compare.Unfit.TheVariants.{First, Second}
 use Rattle.verdicts.specs.declared.outcome.Kind.{Kind}
 use Rattle.verdicts.specs.declared.outcome.Outcome.{Outcome}
 use Rattle.verdicts.specs.declared.outcome.Outcome.TheVariants.{Keep, Convert, Gone, Added, Refused}
@@ -34,12 +36,18 @@ is_kind a b = rank a == rank b
 abbrev pub counted : Kind → List Outcome → ℕ
 counted k os = count_by (λ o. is_kind (kind_of o) k) os
 
--- the outcome of a rule that is in both tables, by what comparing the two says
+-- the outcome of a rule that is in both tables, by what comparing the two says: where both are rules, where one is none, and over any pair table
+abbrev pub both : Bool → Outcome
+both true = Keep
+both false = Convert
+
+abbrev pub unfit : Unfit → Outcome
+unfit (First fault) = Refused Old fault
+unfit (Second fault) = Refused New fault
+
 abbrev pub answered : Result Bool CompareFault → Option Outcome
-answered (Ok true) = Some Keep
-answered (Ok false) = Some Convert
-answered (Err (First fault)) = Some (Refused Old fault)
-answered (Err (Second fault)) = Some (Refused New fault)
+answered (Ok same) = Some (both same)
+answered (Err (ByUnfit e)) = Some (unfit e)
 answered (Err PairTable) = None
 
 -- the outcome of a rule that is in one table alone: refused by the first ground from 1 to 6 that it meets, or gone or new

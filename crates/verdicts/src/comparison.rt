@@ -3,10 +3,11 @@ ghost use Rattle.std.specs.Prelude.{◌≡◌};
 ghost use Rattle.verdicts.specs.Comparisons.{ComparisonAs};
 ghost use Rattle.verdicts.specs.declared.comparison.Uncompared.TheVariants.{Memory};
 
-use crate::answer::{Unfit, compare_rules};
+use crate::answer::compare_rules;
 use crate::names::Names;
 use crate::pairs::PairTable;
 use crate::verdict::Verdict;
+use sameness::compare::Unfit;
 use std::alloc::{AllocError, Global};
 use std::fmt;
 use tables::line::Entry;

@@ -1,11 +1,11 @@
 // What becomes of a rule when a table is changed.
 ghost use Rattle.std.specs.Prelude.{◌≡◌};
-ghost use Rattle.verdicts.specs.Outcomes.{JudgedAs, OutcomeAs, OutcomeBy, SoleAs, answered, kind_of};
+ghost use Rattle.verdicts.specs.Outcomes.{JudgedAs, OutcomeAs, OutcomeBy, SoleAs, answered, both, kind_of};
 
 use crate::pairs::PairTable;
 use rule::fault::Fault;
 use rule::intake::intake;
-use sameness::compare::{CompareFault, compare};
+use sameness::compare::{CompareFault, Unfit, compare, compare_over};
 use std::fmt;
 
 // The table that a rule is refused in.
@@ -53,6 +53,20 @@ impl From<Outcome> for Kind {
     }
 }
 
+// The outcome of a rule that is in both tables, where one of the two is no rule.
+impl From<Unfit> for Outcome {
+    ghost use Rattle.verdicts.specs.Outcomes.{unfit};
+
+    ghost from_gives = { λ e outcome. outcome ≡ unfit e };
+
+    fn from(e: Unfit) -> Outcome {
+        match e {
+            Unfit::First(fault) => Outcome::Refused(Side::Old, fault),
+            Unfit::Second(fault) => Outcome::Refused(Side::New, fault),
+        }
+    }
+}
+
 impl Outcome {
     // The outcome of a rule that is in both tables, by what comparing the two says.
     // `None` where the pair table was too short for a comparison.
@@ -60,11 +74,20 @@ impl Outcome {
         ensures { result ≡ answered answer }
     {
         match answer {
-            Ok(true) => Some(Outcome::Keep),
-            Ok(false) => Some(Outcome::Convert),
-            Err(CompareFault::First(fault)) => Some(Outcome::Refused(Side::Old, fault)),
-            Err(CompareFault::Second(fault)) => Some(Outcome::Refused(Side::New, fault)),
+            Ok(same) => Some(Outcome::of_both(same)),
+            Err(CompareFault::Unfit(e)) => Some(Outcome::from(e)),
             Err(CompareFault::PairTable) => None,
+        }
+    }
+
+    // The outcome of two rules that are the same, or are not.
+    fn of_both(same: bool) -> Outcome
+        ensures { result ≡ both same }
+    {
+        if same {
+            Outcome::Keep
+        } else {
+            Outcome::Convert
         }
     }
 
@@ -73,7 +96,10 @@ impl Outcome {
         ensures { OutcomeAs old.now new.now result }
     {
         let mut pairs = PairTable::new();
-        outcome_of(old, new, &mut pairs.places).unwrap()
+        match compare_over(old, new, &mut pairs.places) {
+            Ok(same) => Outcome::of_both(same),
+            Err(e) => Outcome::from(e),
+        }
     }
 
     // The outcome of a rule that is in one table alone.
