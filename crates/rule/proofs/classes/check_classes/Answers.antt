@@ -37,5 +37,5 @@ returns-clause-ok c =
     let l = all-given rule _ _ c.loop-node.invariant.rule refl _ c.in-None.ensures.steps in
     record {
       kids = λ i h. c.loop-node.invariant.passed i (omega (arith, l, read-nodes _ _ rule.read));
-      rooted = ap (λ n. root (class_at ws n)) (sym e) ∙ ap root (sym (class-is _ _ rule.read _ _ c.known_node.ensures _ c.known_row-root.ensures)) ∙ sym c.if-not-can_be_root.ensures;
+      rooted = ap (λ n. root (class_at ws n)) (sym e) ∙ ap root (sym (class-is _ _ rule.read _ _ c.known_node.ensures _ (sym c.row.ensures ∙ c.unwrap-root.ensures))) ∙ sym c.if-not-can_be_root.ensures;
     }
