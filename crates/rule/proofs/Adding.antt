@@ -1,10 +1,10 @@
 -- The children of a node counted as seen, one after the other.
 use Rattle.std.proofs.Common.{◌≡◌, ℕ, ◌+◌, ◌<◌, ◌≤◌, Bool, true, false, cond, eqb, List, length, get_or, take, set, sum_by, count_by, sym, refl, ap, ◌∙◌, subst, ⊎_elim, arith, below_none, below_more}
 use Rattle.std.proofs.lemmas.Bool.{cases_eq, eq-eqb, ne_eqb, cond-true}
-use Rattle.std.proofs.lemmas.List.{get_or-set_same, get_or-set_other, map-set, length-map, take_all}
+use Rattle.std.proofs.lemmas.List.{get_or-set_same, get_or-set_other, map-set, length-map}
 use Rattle.std.proofs.lemmas.List.Sums.{sum_by_more, sum_by_more_le, count_by_more_yes, count_by_more_no}
 use Rattle.std.proofs.Math.ListN.{get_or-map}
-use Rattle.rule.specs.Tally.{loose, flag, flags, AtMostOnce, Added, Clash, twice}
+use Rattle.rule.specs.Tally.{loose, flag, flags, AtMostOnce, Clash, twice}
 use Rattle.rule.proofs.Counting.{loose-taken}
 
 ---- flags as numbers
@@ -82,14 +82,3 @@ module _ (kids : List ℕ) (i : ℕ) (seen₀ : List ℕ) where
         let y : get_or (flags seen) c 0 ≡ 1 = flag-at seen c ∙ ap flag t in
         let e : ◌≡◌ {A = ℕ} (cond (eqb c c) 1 0) 1 = cond-true (eqb c c) 1 0 (eq-eqb c c refl) in
         twice c b (omega (arith, a.counts c, sum_by_more_le (λ j. cond (eqb j c) 1 0) kids q 0 h))
-
-  pub adding-all : (seen sizes : List ℕ) (total q : ℕ) → q ≡ length kids → Adding kids i seen₀ seen sizes total q → Added kids i seen₀ seen sizes total
-  adding-all seen sizes total q e a =
-      let z : take q kids ≡ kids = take_all q kids (omega arith) in
-      record {
-        below = λ r h. a.below r (omega arith);
-        counts = λ x. a.counts x ∙ ap (λ ks. get_or seen₀ x 0 + count_by (λ k. eqb k x) ks) z;
-        flags = a.flags;
-        sum = a.sum ∙ ap (λ ks. 1 + sum_by (λ k. get_or sizes k 0) ks) z;
-        rest = a.rest;
-      }

@@ -20,31 +20,31 @@ hit x ws p = cond (eqb (get_or ws p 0) x) 1 0
 pub hit_other : (x : ℕ) (ws : List ℕ) (p : ℕ) → (get_or ws p 0 ≡ x → ⊥) → hit x ws p ≡ 0
 hit_other x ws p n = cond-false (eqb (get_or ws p 0) x) 1 0 (ne_eqb _ _ n)
 
--- the numbers of a list, which stand in the run from p on, counted and added up
+-- the numbers of a list that the run has from p on, counted and added up
 module _ (ws : List ℕ) where
-  Standing : ℕ → List ℕ → Type 0
-  Standing p ks = (q : ℕ) → q < length ks → get_or ks q 0 ≡ get_or ws (p + q) 0
+  Listed : ℕ → List ℕ → Type 0
+  Listed p ks = (q : ℕ) → q < length ks → get_or ks q 0 ≡ get_or ws (p + q) 0
 
-  first : (p k : ℕ) (ks : List ℕ) → Standing p (k ∷ ks) → k ≡ get_or ws p 0
-  unfolding Standing
+  first : (p k : ℕ) (ks : List ℕ) → Listed p (k ∷ ks) → k ≡ get_or ws p 0
+  unfolding Listed
   first p k ks h =
       let e : p + 0 ≡ p = omega arith in
       h 0 (omega arith) ∙ ap (λ a. get_or ws a 0) e
 
-  others : (p k : ℕ) (ks : List ℕ) → Standing p (k ∷ ks) → Standing (p + 1) ks
-  unfolding Standing
+  others : (p k : ℕ) (ks : List ℕ) → Listed p (k ∷ ks) → Listed (p + 1) ks
+  unfolding Listed
   others p k ks h q l =
       let e : p + suc q ≡ p + 1 + q = omega arith in
       h (suc q) (omega arith) ∙ ap (λ a. get_or ws a 0) e
 
-  standing-list : (x p : ℕ) (ks : List ℕ) → Standing p ks → standing x ws p (length ks) ≡ count_by (λ k. eqb k x) ks
+  standing-list : (x p : ℕ) (ks : List ℕ) → Listed p ks → standing x ws p (length ks) ≡ count_by (λ k. eqb k x) ks
   unfolding standing
   standing-list x p [] h = refl
   standing-list x p (k ∷ ks) h =
       let e : hit x ws p ≡ cond (eqb k x) 1 0 = ap (λ a. cond (eqb a x) 1 0) (sym (first p k ks h)) in
       omega (arith, e, standing-list x (p + 1) ks (others p k ks h), sum_by-cons (λ a. cond (eqb a x) 1 0) k ks)
 
-  sizes-list : (sizes : List ℕ) (p : ℕ) (ks : List ℕ) → Standing p ks → sizes_of ws p (length ks) sizes ≡ sum_by (λ k. get_or sizes k 0) ks
+  sizes-list : (sizes : List ℕ) (p : ℕ) (ks : List ℕ) → Listed p ks → sizes_of ws p (length ks) sizes ≡ sum_by (λ k. get_or sizes k 0) ks
   unfolding sizes_of
   sizes-list sizes p [] h = refl
   sizes-list sizes p (k ∷ ks) h =
@@ -53,15 +53,15 @@ module _ (ws : List ℕ) where
 
   -- the children of the node n
   module _ (o : ℕ) (n : Node) (s : Spelt ws o n) where
-    kids-stand : Standing (o + 4) n.kids.now
-    unfolding Standing
-    kids-stand q l = s.each q (omega (arith, s.count))
+    kids-listed : Listed (o + 4) n.kids.now
+    unfolding Listed
+    kids-listed q l = s.each q (omega (arith, s.count))
 
     pub kids-standing : (x : ℕ) → standing x ws (o + 4) (kids_at ws o) ≡ count_by (λ k. eqb k x) n.kids.now
-    kids-standing x = ap (standing x ws (o + 4)) (sym s.count) ∙ standing-list x (o + 4) n.kids.now kids-stand
+    kids-standing x = ap (standing x ws (o + 4)) (sym s.count) ∙ standing-list x (o + 4) n.kids.now kids-listed
 
     pub kids-sizes : (sizes : List ℕ) → sizes_of ws (o + 4) (kids_at ws o) sizes ≡ sum_by (λ k. get_or sizes k 0) n.kids.now
-    kids-sizes sizes = ap (λ m. sizes_of ws (o + 4) m sizes) (sym s.count) ∙ sizes-list sizes (o + 4) n.kids.now kids-stand
+    kids-sizes sizes = ap (λ m. sizes_of ws (o + 4) m sizes) (sym s.count) ∙ sizes-list sizes (o + 4) n.kids.now kids-listed
 
 -- what is not below the node is none of its children
 pub standing-none : (x : ℕ) (ws : List ℕ) (p n m : ℕ) → m ≤ x → ((q : ℕ) → q < n → get_or ws (p + q) 0 < m) → standing x ws p n ≡ 0

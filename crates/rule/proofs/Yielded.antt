@@ -27,9 +27,9 @@ module _ (r : Rule) (i : ℕ) (s : NodeIter) (e : s.rule ≡ r) (f : s.next ≡ 
 
 ---- the nodes without their children
 
-not-not : (b : Bool) → b ≡ not b → ⊥
-not-not true e = false≢true (sym e)
-not-not false e = false≢true e
+unlike : (b : Bool) → b ≡ not b → ⊥
+unlike true e = false≢true (sym e)
+unlike false e = false≢true e
 
 -- code, v and w
 pub record Head : Type 0 where
@@ -84,4 +84,4 @@ module _ (ws : List ℕ) (test : Head → Bool) (b : Bool) where
   pub some-head : (k : ℕ) × (k < length (heads ws)) × HoldsAt (λ h. test h ≡ b) (heads ws) k → ((i : ℕ) → i < nodes ws → test (head_at ws (offset ws i)) ≡ not b) → ⊥
   some-head a f =
       let h : a.0 < nodes ws = omega (arith, a.1, length-map (offsets ws) (head_at ws)) in
-      not-not b (sym (ap test (sym (head-is a.0)) ∙ a.2 (head_at ws 0)) ∙ f a.0 h)
+      unlike b (sym (ap test (sym (head-is a.0)) ∙ a.2 (head_at ws 0)) ∙ f a.0 h)

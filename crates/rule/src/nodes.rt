@@ -5,6 +5,8 @@ ghost use Rattle.rule.specs.Intake.{Read, Refused};
 use crate::codes::{BINARY, BLOCK, PATH};
 use crate::comparison::Comparison;
 use crate::fault::Fault;
+use crate::lookup::row_of;
+use crate::rows::Row;
 use arrayvec::ArrayVec;
 
 // The longest rule, in words, and the most nodes that so many words hold.
@@ -37,7 +39,15 @@ pub struct Node<'a> {
 }
 
 impl<'a> Node<'a> {
+    ghost use Rattle.rule.specs.Lookup.{row_of};
     ghost use Rattle.rule.specs.Nodes.{local_of, comparison_in, plain_block};
+
+    // The row that the node's words are within.
+    pub(crate) fn row(self) -> Option<Row>
+        ensures { result ≡ row_of self.entry.code self.entry.v self.entry.w }
+    {
+        row_of(self.code, self.v, self.w)
+    }
 
     /// The local that the node uses: a path to a local does.
     pub fn local(self) -> Option<u32>
@@ -76,16 +86,6 @@ pub struct Rule<'w, 'p> {
 impl<'w, 'p> Rule<'w, 'p> {
     ghost use Rattle.rule.specs.Nodes.{Spelt, from_the_first};
 
-    /// The nodes, in the order of their numbers.
-    pub fn nodes(self) -> NodeIter<'w, 'p>
-        ensures { result ≡ from_the_first self.entry }
-    {
-        NodeIter {
-            rule: self,
-            next: 0,
-        }
-    }
-
     /// Node `i`, if there is one.
     pub fn node(self, i: usize) -> Option<Node<'w>>
         ensures some { IfSome result (λ n. Spelt self.entry.words.now (slice_index self.entry.at.now i) n) }
@@ -120,6 +120,16 @@ impl<'w, 'p> Rule<'w, 'p> {
         ensures { result + 1 ≡ length self.entry.at.now }
     {
         self.at.len() - 1
+    }
+
+    /// The nodes, in the order of their numbers.
+    pub fn nodes(self) -> NodeIter<'w, 'p>
+        ensures { result ≡ from_the_first self.entry }
+    {
+        NodeIter {
+            rule: self,
+            next: 0,
+        }
     }
 }
 

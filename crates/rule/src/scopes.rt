@@ -44,6 +44,7 @@ fn declare(local: u32, until: usize, marks: &mut [Mark; MOST_LOCALS]) -> Result<
     requires few { until ≤ 2048 }
     ensures { Says result (ends marks.new) (at_declaration local until (ends marks.old)) }
 {
+    // Kept: read and then written by number, since of what `get_mut` lends a proof knows the length alone.
     match marks.get(local as usize) {
         Some(mark) if mark.is_unmet() => {
             marks[local as usize] = Mark::UsableTo((until - 1) as u16);
@@ -59,6 +60,7 @@ fn use_local(local: u32, place: usize, marks: &mut [Mark; MOST_LOCALS]) -> Resul
     requires { place ≤ 2048 }
     ensures { Says result (ends marks.new) (at_use place local (ends marks.old)) }
 {
+    // Kept: read and then written by number, as in `declare`.
     match marks.get(local as usize) {
         Some(Mark::Unmet) => {
             marks[local as usize] = Mark::Free;

@@ -39,7 +39,7 @@ fn add_kids(
 }
 
 // Every child is below its node, and every node before the last is a child exactly once; the sizes of the nodes' trees.
-pub(crate) fn check_tree(rule: Rule) -> Result<[u16; 2048], Fault>
+pub(crate) fn check_tree(rule: Rule) -> Result<[u16; MOST_NODES], Fault>
     ensures ok { IfOk result (λ sizes. Treelike rule.entry.words.now × Sized rule.entry.words.now sizes) }
     ensures err { IfErr result (λ f. (f ≡ Fault.NotATree) × (Treelike rule.entry.words.now → ⊥)) }
 {

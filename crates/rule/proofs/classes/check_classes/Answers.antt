@@ -1,6 +1,5 @@
-use Rattle.std.proofs.Common.{◌≡◌, ℕ, ◌-◌, ◌<◌, false, sym, refl, ap, ◌∙◌, subst, arith, below_more}
+use Rattle.std.proofs.Common.{◌≡◌, ℕ, ◌-◌, ◌<◌, sym, refl, ap, ◌∙◌, subst, arith, below_more}
 use Rattle.std.proofs.lemmas.Result.{err_from_is_err_and}
-use Rattle.std.proofs.lemmas.Bool.{both_ways}
 use Rattle.rule.specs.Lookup.{root}
 use Rattle.rule.specs.Intake.{KidsPass, nodes, class_at}
 use Rattle.rule.proofs.Fitting.{rowed, class-is, kids-pass, fits-its-row}
@@ -30,14 +29,6 @@ returns-in_err-check_kids-clause-err c =
     let n : c.loop-node.node-iterator.next < nodes rule.words.now = omega (arith, g.0, read-nodes _ _ rule.read) in
     rw (p.1, p.2) (e.0, λ k. e.1 (fits-its-row _ _ rule.read _ _ g.1 (k.kids c.loop-node.node-iterator.next n)))
 
-pub returns-then-not-can_be_root-clause-err : goal.returns-then-not-can_be_root-clause-err
-returns-then-not-can_be_root-clause-err c =
-    let rule = c.args.tree.rule in
-    let ws = rule.words.now in
-    let e : c.root.result ≡ nodes ws - 1 = omega (arith, c.root.ensures, read-nodes _ _ rule.read) in
-    let k : root (class_at ws (nodes ws - 1)) ≡ false = ap (λ n. root (class_at ws n)) (sym e) ∙ ap root (sym (class-is _ _ rule.read _ _ c.known_node.ensures _ c.known_row-root.ensures)) ∙ sym c.if-not-can_be_root.ensures in
-    (refl, λ l. both_ways _ k l.rooted)
-
 pub returns-clause-ok : goal.returns-clause-ok
 returns-clause-ok c =
     let rule = c.args.tree.rule in
@@ -46,5 +37,5 @@ returns-clause-ok c =
     let l = all-given rule _ _ c.loop-node.invariant.rule refl _ c.in-None.ensures.steps in
     record {
       kids = λ i h. c.loop-node.invariant.passed i (omega (arith, l, read-nodes _ _ rule.read));
-      rooted = ap (λ n. root (class_at ws n)) (sym e) ∙ ap root (sym (class-is _ _ rule.read _ _ c.known_node.ensures _ c.known_row-root.ensures)) ∙ sym c.if-not-can_be_root.ensures;
+      rooted = ap (λ n. root (class_at ws n)) (sym e) ∙ ap root (sym (class-is _ _ rule.read _ _ c.known_node.ensures _ (sym c.row.ensures ∙ c.unwrap-root.ensures))) ∙ sym c.if-not-can_be_root.ensures;
     }

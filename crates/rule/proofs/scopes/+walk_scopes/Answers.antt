@@ -7,11 +7,8 @@ use Rattle.rule.proofs.Grown.{tree-read}
 use Rattle.rule.proofs.Kids.{kid, kid-end}
 use Rattle.rule.proofs.Spelling.{spelt-comparison, spelt-note}
 use Rattle.rule.proofs.Marking.{ends-length}
-use Rattle.rule.proofs.Roles.{walking-none, walking-more, walking-broken, walking-all, size-node, node-broken, node-noted}
+use Rattle.rule.proofs.Roles.{walking-more, walking-broken, walking-all, size-node, node-broken, node-noted}
 use Rattle.rule.proofs.scopes.+walk_scopes.Goals as goal
-
-pub loop-kid-init : goal.loop-kid-init
-loop-kid-init t c = walking-none _ _ _ _ _ _ _ (ends-length c.args.marks.now ∙ c.told-marks)
 
 pub overflow_add-end : goal.overflow_add-end
 overflow_add-end t c =

@@ -1,4 +1,4 @@
-use Rattle.std.proofs.Common.{◌≡◌, ◌+◌, ◌-◌, refl, arith}
+use Rattle.std.proofs.Common.{◌≡◌, ◌+◌, ◌-◌, arith}
 use Rattle.std.proofs.lemmas.Bool.Decides.{nat_tests}
 use Rattle.rule.specs.declared.scopes.Mark.TheVariants.{Unmet, UsableTo}
 use Rattle.rule.specs.Marks.{at_declaration}
@@ -11,9 +11,3 @@ returns-in-Some c =
     let l = c.in-Some.ensures.lookup.3 in
     let u : c.args.until - 1 + 1 ≡ c.args.until = omega (arith, c.requires.some) in
     rw (ends-set c.args.marks.now c.args.local (UsableTo (c.args.until - 1)), u) (grind (arith, nat_tests, l.0, end-at c.args.marks.now c.args.local, l.1 Unmet))
-
-pub returns-in_default : goal.returns-in_default
-unfolding at_declaration
-returns-in_default c =
-    let l = c.in-Some.ensures.lookup.3 in
-    (refl, grind (arith, nat_tests, l.0, end-at c.args.marks.now c.args.local, l.1 Unmet))

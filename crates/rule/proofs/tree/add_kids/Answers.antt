@@ -1,6 +1,6 @@
 use Rattle.std.proofs.Common.{refl, arith}
 use Rattle.rule.specs.Tally.{high}
-use Rattle.rule.proofs.Adding.{adding-none, adding-all, kid-more, kid-twice, flagged}
+use Rattle.rule.proofs.Adding.{adding-none, kid-more, kid-twice, flagged}
 use Rattle.rule.proofs.tree.add_kids.Goals as goal
 use Rattle.rule.proofs.tree.add_kids.Goals.{then-kid-i-via-then-kid-i, then-kid-i-via-else-kid-i+then-seen-kid}
 
@@ -17,6 +17,3 @@ returns-then-kid-i-clause-err c =
 
 pub loop-kid-preserved : goal.loop-kid-preserved
 loop-kid-preserved c = kid-more _ _ _ c.loop-kid.seen _ _ _ c.loop-kid-test.true c.loop-kid.invariant c.if-kid-i.false (omega arith) (omega arith) c.if-seen-kid.false
-
-pub returns-clause-ok : goal.returns-clause-ok
-returns-clause-ok c = adding-all _ _ _ _ _ _ _ (omega (arith, c.loop-kid-test.false, c.loop-kid.auto.kid-index-end)) c.loop-kid.invariant
