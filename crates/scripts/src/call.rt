@@ -3,11 +3,11 @@ ghost use Rattle.scripts.specs.Calls.{AfterVerb, CallAs, told};
 ghost use Rattle.scripts.specs.Readings.{Reads};
 
 use crate::fault::ScriptFault;
-use crate::line::Line;
 use crate::named::read_named;
 use crate::pieces::{read_end, read_sole_number};
 use crate::units::read_units;
 use crate::verb::Verb;
+use tables::line::Line;
 
 #[derive(Debug, Drop)]
 pub enum Call<U> {

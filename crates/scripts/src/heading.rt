@@ -9,11 +9,11 @@ ghost use Rattle.scripts.specs.Spellings.{hasher-same, kind-same};
 
 use crate::fault::{Expected, ScriptFault, UnknownWord};
 use crate::label::{Label, read_label, read_labelled};
-use crate::line::Line;
 use crate::named::{Named, read_named};
 use crate::pieces::{next_piece, read_end};
 use hashing::named::HasherName;
 use std::str::FromStr;
+use tables::line::Line;
 
 // What the entries are.
 #[derive(Clone, Copy, Debug, PartialEq, Eq)]

@@ -4,7 +4,7 @@ ghost use Rattle.scripts.specs.Parts.{UnitAt, Units};
 ghost use Rattle.scripts.specs.Readings.{Reads};
 
 use crate::fault::{Expected, ScriptFault};
-use crate::line::Line;
+use tables::line::Line;
 use tables::pieces::Pieces;
 use tables::word::read_word;
 
@@ -25,7 +25,7 @@ fn read_unit(line: Line, piece: &str, limit: u32) -> Result<u32, ScriptFault>
 {
     match read_word(piece) {
         Ok(word) if word <= limit => Ok(word),
-        _ => Err(line.found(unit_up_to(limit), piece)),
+        _ => Err(ScriptFault::found(line, unit_up_to(limit), piece)),
     }
 }
 

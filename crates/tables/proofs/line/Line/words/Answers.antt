@@ -6,7 +6,7 @@ use Rattle.tables.specs.Numerals.{ReadAs}
 use Rattle.tables.proofs.Faults.{run-fault}
 use Rattle.tables.proofs.Mapped.{given-err, given-ok}
 use Rattle.tables.proofs.Runs.{Sofar, none_yet, stops-here, one_more, all_read}
-use Rattle.tables.proofs.line.read_words.Goals as goal
+use Rattle.tables.proofs.line.Line.words.Goals as goal
 
 pub loop-piece-init : goal.loop-piece-init
 loop-piece-init c =
@@ -18,8 +18,8 @@ returns-in_err-word c =
     let p = err_from_is_err_and c.from_residual.result c.from_residual.ensures.1 in
     let (why, is, made) = given-err c.read_word.result c.map_err.result _ c.in_err-word.field-0.0 c.map_err.ensures.cases c.in_err-word.was in
     let bad = subst (ReadAs c.in-Some.piece.now) is c.read_word.ensures.cases in
-    subst (RunAs c.args.line c.args.run.now) (sym (p.1 ∙ ap Err p.2))
-    (run-fault c.args.line c.args.run.now _ c.in-Some.piece.now why _ (stops-here c.loop-piece.invariant c.in-Some.ensures.steps) bad (search rules))
+    subst (RunAs c.args.self.number c.args.run.now) (sym (p.1 ∙ ap Err p.2))
+    (run-fault c.args.self.number c.args.run.now _ c.in-Some.piece.now why _ (stops-here c.loop-piece.invariant c.in-Some.ensures.steps) bad (search rules))
 
 pub loop-piece-preserved : goal.loop-piece-preserved
 loop-piece-preserved c =
