@@ -12,11 +12,9 @@ use tables::word::read_word;
 pub(crate) fn read_units(line: Line, text: &str, limit: u32) -> Result<Vec<u32>, ScriptFault>
     ensures { Reads line.number vec_items (Units limit text.now) result }
 {
-    let mut units = Vec::new(line.heap);
-    for piece in Pieces::new(text) {
-        units.push(read_unit(line, piece, limit)?)?;
-    }
-    Ok(units)
+    Pieces::new(text)
+        .map(|piece| read_unit(line, piece, limit))
+        .try_collect(line.heap)
 }
 
 // The unit that a piece writes.

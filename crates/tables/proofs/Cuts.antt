@@ -5,14 +5,20 @@ use Rattle.std.specs.Option.{unwrap_or}
 use Rattle.std.specs.Str.{NoCharPasses}
 use Rattle.std.specs.Str.Pattern.{FindsBy, FindsPrefixBy, FindsSuffixBy, CutsPrefixes, CutsSuffixes, IsTrimStartMatches, IsTrimEndMatches, MatchBeginsAt}
 use Rattle.std.proofs.Math.Utf8.{low_scalar}
-use Rattle.std.proofs.lemmas.List.{take-append-drop, get_or-take, get_or-drop, get_or_append_left, length-take-le, length-drop, drop_all, drop_more, nil_from_length}
-use Rattle.std.proofs.lemmas.Bool.{or_cases, eqb-true, cases_Bool, both_ways, cond-true, cond-false}
+use Rattle.std.proofs.lemmas.List.{take-append-drop, get_or-take, get_or-drop, get_or_append_left, get_or-append_right, length-take-le, length-drop, drop_all, drop_more, nil_from_length}
+use Rattle.std.proofs.lemmas.Bool.{or_cases, eqb-true, cases_lt, cases_Bool, both_ways, cond-true, cond-false}
 use Rattle.std.proofs.lemmas.Bool.Decides.{nat_tests}
 use Rattle.std.proofs.lemmas.Str.{encode_ascii, len_utf8_bounds, NoCharPasses-byte}
 use Rattle.std.proofs.lemmas.Str.Pattern.{drop_at_char}
 use Rattle.tables.specs.Lines.{skipped}
 use Rattle.tables.specs.Pieces.{blank, Blanks, Cut, Trimmed}
-use Rattle.tables.proofs.Runs.{blanks-append}
+
+pub blanks-append : (t : Bool) (xs ys : List ℕ) → Blanks t xs → Blanks t ys → Blanks t (xs ++ ys)
+blanks-append t xs ys hx hy = λ i l.
+    ⊎_elim
+    (λ in-front. ap blank (get_or_append_left xs ys 0 i in-front) ∙ hx i in-front)
+    (λ after. ap blank (get_or-append_right xs ys (length xs) i 0 refl after) ∙ hy _ (omega (arith, length-append xs ys)))
+    (cases_lt i (length xs))
 
 blank-ascii : (b : ℕ) → blank b ≡ true → b < 128
 blank-ascii b h =

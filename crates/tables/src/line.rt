@@ -1,6 +1,6 @@
 // A line of a table.
 ghost use Rattle.std.specs.Prelude.{◌≡◌};
-ghost use Rattle.tables.specs.Lines.{content, KeepsRules, LineAs, PieceFault, RunAs};
+ghost use Rattle.tables.specs.Lines.{content, KeepsRules, LineAs, PieceRead, PieceFault, RunAs};
 
 use crate::blanks::{is_skipped, trim_blanks};
 use crate::fault::{TableFault, shown};
@@ -28,12 +28,16 @@ impl Line {
     fn words(self, run: &str) -> Result<Vec<u32>, TableFault>
         ensures { RunAs self.number run.now result }
     {
-        let mut words = Vec::new(self.heap);
-        for piece in Pieces::new(run) {
-            let word = read_word(piece).map_err(|fault| self.fault(piece, fault))?;
-            words.push(word)?;
-        }
-        Ok(words)
+        Pieces::new(run)
+            .map(|piece| self.word(piece))
+            .try_collect(self.heap)
+    }
+
+    // The word that a piece is.
+    fn word(self, piece: &str) -> Result<u32, TableFault>
+        ensures { PieceRead self.number piece.now result }
+    {
+        read_word(piece).map_err(|fault| self.fault(piece, fault))
     }
 
     // The fault of a piece that is no word.
