@@ -1,9 +1,10 @@
 -- The units of a line. Assumes nothing.
-use Rattle.std.proofs.Common.{◌≡◌, ℕ, zero, suc, ◌<◌, ◌≤◌, List, [], ◌∷◌, length, get_or, Ok, Err, Result, Vec, vec_items, refl, subst, inl, ⊎_elim, arith}
+use Rattle.std.proofs.Common.{◌≡◌, ℕ, zero, suc, ◌<◌, ◌≤◌, true, Bor, List, [], ◌∷◌, length, get_or, Ok, Err, Result, Vec, vec_items, sym, refl, subst, inl, ⊎_elim, arith}
 use Rattle.std.specs.declared.alloc.AllocError.{AllocError}
 use Rattle.tables.specs.Numerals.{Writes}
-use Rattle.tables.specs.Pieces.{Run}
-use Rattle.tables.proofs.Gathered.{AllRead, Gathered, ReadTo}
+use Rattle.tables.specs.Pieces.{Blanks, First, Run, left}
+use Rattle.tables.specs.declared.pieces.Pieces.{Pieces}
+use Rattle.tables.proofs.Gathered.{Gathered, GivesPiece, ReadsTo}
 use Rattle.tables.proofs.Numbers.{writes_one}
 use Rattle.tables.proofs.Sole.{first-same, no-piece}
 use Rattle.scripts.specs.Parts.{UnitAt, Units}
@@ -23,43 +24,44 @@ run-same bs (u ∷ us) (v ∷ vs) r s =
     (λ i. heads i ∷ tails i)
 
 module _ (limit n : ℕ) where
-  abbrev IsUnit : List ℕ → Result ℕ ScriptFault → Type 0
-  IsUnit p = Reads n (λ k. k) (UnitAt limit p)
+  abbrev pub IsUnit : Bor (List ℕ) → Result ℕ ScriptFault → Type 0
+  IsUnit p = Reads n (λ k. k) (UnitAt limit p.now)
 
   under-cons : (u : ℕ) (us : List ℕ) → u ≤ limit → ((i : ℕ) → i < length us → get_or us i 0 ≤ limit) → (i : ℕ) → i < length (u ∷ us) → get_or (u ∷ us) i 0 ≤ limit
   under-cons u us low rest zero l = low
   under-cons u us low rest (suc i) l = rest i (omega arith)
 
   -- pieces that are all read are a run of units
-  all-units : (text us : List ℕ) → AllRead (λ p k. IsUnit p (Ok k)) text us → Units limit text us
-  all-units text [] h = record { run = h; under = λ i l. absurd (omega arith) }
-  all-units text (u ∷ us) h =
-      let (p, rest, first, one, more) = h in
-      let on = all-units rest us more in
+  all-units : (s t : Pieces) (us : List ℕ) → ReadsTo GivesPiece (λ p k. IsUnit p (Ok k)) s us t → Blanks true (left t) → Units limit (left s) us
+  all-units s t [] h end = record { run = subst (λ u. Blanks true (left u)) (sym h) end; under = λ i l. absurd (omega arith) }
+  all-units s t (u ∷ us) h end =
+      let (p, j, first, one, on) = h in
+      let rest = all-units j t us on end in
       record {
-        run = (p, rest, first, one.holds.0, one.holds.1, on.run);
-        under = under-cons u us one.holds.2 on.under;
+        run = (p.now, left j, first, one.holds.0, one.holds.1, rest.run);
+        under = under-cons u us one.holds.2 rest.under;
       }
 
   -- a piece that writes no unit stands in no run of units
-  no-units : (text us p : List ℕ) → ReadTo (λ q k. IsUnit q (Ok k)) text us p → NoneIs (UnitAt limit p) → NoneIs (Units limit text)
-  no-units text [] p to none [] h = no-piece text p to.0 h.run to.1
-  no-units text [] p to none (v ∷ vs) h =
-      let (q, rest, first, writes, fits, more) = h.run in
-      none v (subst (λ l. Writes l v) (first-same text q rest p to.0 first to.1).0 writes, fits, h.under 0 (omega arith))
-  no-units text (u ∷ us) p to none [] h = no-piece text to.0 to.1 h.run to.2
-  no-units text (u ∷ us) p to none (v ∷ vs) h =
-      let (q, rest, first, writes, fits, more) = h.run in
-      no-units to.1 us p to.4 none vs (record {
-        run = subst (λ l. Run l vs) (first-same text q rest to.0 to.1 first to.2).1 more;
+  no-units : (s t : Pieces) (us p rest : List ℕ) → ReadsTo GivesPiece (λ q k. IsUnit q (Ok k)) s us t → First (left t) p rest → NoneIs (UnitAt limit p) → NoneIs (Units limit (left s))
+  no-units s t [] p rest to last none [] h = no-piece (left t) p rest (subst (λ u. Blanks true (left u)) to h.run) last
+  no-units s t [] p rest to last none (v ∷ vs) h =
+      let (q, more, first, writes, fits, on) = h.run in
+      let same = first-same (left t) q more p rest (subst (λ u. First (left u) q more) to first) last in
+      none v (subst (λ l. Writes l v) same.0 writes, fits, h.under 0 (omega arith))
+  no-units s t (u ∷ us) p rest to last none [] h = no-piece (left s) to.0.now (left to.1) h.run to.2
+  no-units s t (u ∷ us) p rest to last none (v ∷ vs) h =
+      let (q, more, first, writes, fits, on) = h.run in
+      no-units to.1 t us p rest to.4 last none vs (record {
+        run = subst (λ l. Run l vs) (first-same (left s) q more to.0.now (left to.1) first to.2).1 on;
         under = λ i l. h.under (suc i) (omega arith);
       })
 
-  pub units-read : {Z : Type 0} (text : List ℕ) (r : Result (Vec ℕ Z) ScriptFault) → Gathered IsUnit (λ f. AllocError × (f ≡ Memory)) text r → Reads n vec_items (Units limit text) r
-  units-read text (Ok v) h =
-      let all = all-units text (vec_items v) h in
-      record { holds = all; only = λ us g. run-same text us (vec_items v) g.run all.run }
-  units-read text (Err f) h =
+  pub units-read : {Z : Type 0} (s : Pieces) (r : Result (Vec ℕ Z) ScriptFault) → Gathered GivesPiece IsUnit (λ f. AllocError × (f ≡ Memory)) s r → Reads n vec_items (Units limit (left s)) r
+  units-read s (Ok v) h =
+      let all = all-units s h.0 (vec_items v) h.2 h.3.0 in
+      record { holds = all; only = λ us g. run-same (left s) us (vec_items v) g.run all.run }
+  units-read s (Err f) h =
       ⊎_elim
       (λ want. inl want.1)
-      (λ bad. let (us, p, to, why) = bad in passed (UnitAt limit p) (Units limit text) n f (no-units text us p to) why) h
+      (λ bad. let (us, t, p, u, on, last, why) = bad in passed (UnitAt limit p.now) (Units limit (left s)) n f (no-units s t us p.now (left u) on last) why) h

@@ -1,6 +1,6 @@
 -- The lines of a script, one more of them. Assumes nothing.
-use Rattle.std.proofs.Common.{◌≡◌, ℕ, ◌+◌, ◌<◌, true, false, ◌⊎◌, List, [], ◌∷◌, ◌++◌, length, get_or, take, IsErrAnd, Some, None, Ok, Err, Option, Result, sym, refl, ap, ◌∙◌, subst, inl, inr, ⊎_elim, append_assoc, append-nil, arith}
-use Rattle.std.proofs.lemmas.List.{length_push, take_more}
+use Rattle.std.proofs.Common.{◌≡◌, ℕ, ◌+◌, true, false, ◌⊎◌, List, [], ◌∷◌, ◌++◌, length, IsErrAnd, Some, None, Ok, Err, Option, Result, sym, refl, ap, ◌∙◌, subst, inl, inr, ⊎_elim, append_assoc, append-nil, arith}
+use Rattle.std.proofs.lemmas.List.{length_push}
 use Rattle.tables.specs.Lines.{content, skipped}
 use Rattle.tables.specs.Rules.{lines}
 use Rattle.tables.proofs.Reading.{when_true, when_false}
@@ -21,14 +21,6 @@ told-append (x ∷ xs) ys = ap (λ l. told x ∷ l) (told-append xs ys)
 
 pub told_push : (ms ns : List (Call ℕ)) (x : Call ℕ) → ms ≡ ns ++ (x ∷ []) → told_all ms ≡ told_all ns ++ (told x ∷ [])
 told_push ms ns x e = ap told_all e ∙ told-append ns (x ∷ [])
-
--- one call more is copied
-pub told_more : (xs ms ns : List (Call ℕ)) (i : ℕ) (x y : Call ℕ) → i < length xs → ms ≡ ns ++ (x ∷ []) → told_all ns ≡ told_all (take i xs) → told x ≡ told y → y ≡ get_or xs i y → told_all ms ≡ told_all (take (i + 1) xs)
-told_more xs ms ns i x y within pushed inv same is =
-    ap told_all pushed ∙ told-append ns (x ∷ [])
-    ∙ (λ j. inv j ++ (same j ∷ []))
-    ∙ ap (λ c. told_all (take i xs) ++ (told c ∷ [])) is
-    ∙ sym (told-append (take i xs) (get_or xs i y ∷ [])) ∙ ap told_all (sym (take_more xs i y within))
 
 -- what the lines that are left have to be, given the heading and the calls so far
 abbrev pub Left : Option (Kind × Heading) → List Told → List (List ℕ) → Whole → Type 0

@@ -12,12 +12,10 @@ pub(crate) fn narrow_calls(heap: Global, calls: &[Call<u32>]) -> Result<Vec<Call
     requires { AllUnder 255 calls.now }
     ensures { Kept (λ v. told_all v.items) (told_all calls.now) result }
 {
-    // Kept: with `try_collect` it stays open that an error is want of memory, which its contract says of runs alone.
-    let mut narrowed = Vec::new(heap);
-    for call in calls {
-        narrowed.push(narrow_call(heap, call)?)?;
-    }
-    Ok(narrowed)
+    calls
+        .iter()
+        .map(|call| narrow_call(heap, call))
+        .try_collect(heap)
 }
 
 // Kept: a method that changes the units of any call would name each variant too, and has this one caller.

@@ -1,5 +1,5 @@
 -- What is wrong with a piece, its run and its line. Assumes nothing.
-use Rattle.std.proofs.Common.{◌≡◌, ℕ, true, List, [], ◌∷◌, ◌++◌, length, Ok, Err, Result, Vec, vec_items, sym, ap, ◌∙◌, subst, ⊎_elim}
+use Rattle.std.proofs.Common.{◌≡◌, ℕ, true, List, [], ◌∷◌, ◌++◌, length, Ok, Err, Bor, Result, Vec, vec_items, sym, ap, ◌∙◌, subst, ⊎_elim}
 use Rattle.std.proofs.lemmas.List.{nil_from_length}
 use Rattle.std.specs.declared.alloc.AllocError.{AllocError}
 use Rattle.tables.specs.declared.fault.TableFault.{TableFault}
@@ -7,9 +7,10 @@ use Rattle.tables.specs.declared.fault.TableFault.TheVariants.{NoColon, NoName, 
 use Rattle.tables.specs.declared.word.WordFault.{WordFault}
 use Rattle.tables.specs.Lines.{Parted, PieceRead, PieceFault, RunAs, RunFault, LineFault}
 use Rattle.tables.specs.Numerals.{ReadAs}
-use Rattle.tables.specs.Pieces.{Blanks, Trimmed, Run, RunTo}
+use Rattle.tables.specs.Pieces.{Blanks, First, Trimmed, Run, RunTo, left}
+use Rattle.tables.specs.declared.pieces.Pieces.{Pieces}
 use Rattle.tables.proofs.Cuts.{blanks-append}
-use Rattle.tables.proofs.Gathered.{AllRead, Gathered, ReadTo}
+use Rattle.tables.proofs.Gathered.{Gathered, GivesPiece, ReadsTo}
 
 pub run-fault : (n : ℕ) (run ws p : List ℕ) (w : WordFault) (f : TableFault) → RunTo run ws p → ReadAs p (Err w) → PieceFault n p w f → RunFault n run f
 run-fault n run ws p w (NoColon k) to why h = h
@@ -20,22 +21,25 @@ run-fault n run ws p w (NameTwice k name before) to why h = h
 run-fault n run ws p w (NotUtf8 k) to why h = h
 run-fault n run ws p w Memory to why h = tt
 
--- a run of which each piece is read
+-- what the pieces of a run are read as
 module _ (n : ℕ) where
-  all-words : (run ws : List ℕ) → AllRead (λ p w. PieceRead n p (Ok w)) run ws → Run run ws
-  all-words run [] h = h
-  all-words run (w ∷ ws) h = (h.0, h.1, h.2, h.3.0, h.3.1, all-words h.1 ws h.4)
+  abbrev pub IsWord : Bor (List ℕ) → Result ℕ TableFault → Type 0
+  IsWord p = PieceRead n p.now
 
-  words-to : (run ws p : List ℕ) → ReadTo (λ q w. PieceRead n q (Ok w)) run ws p → RunTo run ws p
-  words-to run [] p h = h
-  words-to run (w ∷ ws) p h = (h.0, h.1, h.2, h.3.0, h.3.1, words-to h.1 ws p h.4)
+  all-words : (s t : Pieces) (ws : List ℕ) → ReadsTo GivesPiece (λ p w. IsWord p (Ok w)) s ws t → Blanks true (left t) → Run (left s) ws
+  all-words s t [] h end = subst (λ u. Blanks true (left u)) (sym h) end
+  all-words s t (w ∷ ws) h end = let (p, j, first, word, on) = h in (p.now, left j, first, word.0, word.1, all-words j t ws on end)
 
-  pub run-as : {Z : Type 0} (run : List ℕ) (r : Result (Vec ℕ Z) TableFault) → Gathered (PieceRead n) (λ f. AllocError × (f ≡ Memory)) run r → RunAs n run r
-  run-as run (Ok v) h = all-words run (vec_items v) h
-  run-as run (Err f) h =
+  words-to : (s t : Pieces) (ws p rest : List ℕ) → ReadsTo GivesPiece (λ q w. IsWord q (Ok w)) s ws t → First (left t) p rest → RunTo (left s) ws p
+  words-to s t [] p rest h last = (rest, subst (λ u. First (left u) p rest) (sym h) last)
+  words-to s t (w ∷ ws) p rest h last = let (q, j, first, word, on) = h in (q.now, left j, first, word.0, word.1, words-to j t ws p rest on last)
+
+  pub run-as : {Z : Type 0} (s : Pieces) (r : Result (Vec ℕ Z) TableFault) → Gathered GivesPiece IsWord (λ f. AllocError × (f ≡ Memory)) s r → RunAs n (left s) r
+  run-as s (Ok v) h = all-words s h.0 (vec_items v) h.2 h.3.0
+  run-as s (Err f) h =
       ⊎_elim
-      (λ want. subst (RunFault n run) (sym want.1) tt)
-      (λ bad. let (ws, p, to, (w, why, told)) = bad in run-fault n run ws p w f (words-to run ws p to) why told) h
+      (λ want. subst (RunFault n (left s)) (sym want.1) tt)
+      (λ bad. let (ws, t, p, u, on, last, (w, why, told)) = bad in run-fault n (left s) ws p.now w f (words-to s t ws p.now (left u) on last) why told) h
 
 pub line-fault : (n : ℕ) (bs front run : List ℕ) (f : TableFault) → Parted bs front run → RunFault n run f → LineFault n bs f
 line-fault n bs front run (NoColon k) cut h = absurd h

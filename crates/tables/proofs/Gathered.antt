@@ -1,5 +1,5 @@
--- What is read of each piece of a text, gathered by `try_collect`. Assumes nothing.
-use Rattle.std.proofs.Common.{◌≡◌, ℕ, zero, suc, ◌+◌, ◌<◌, ◌≤◌, ◌⊎◌, true, List, [], ◌∷◌, ◌++◌, length, Option, Ok, Err, Result, Vec, vec_items, vec_len, vec_capacity, Bor, IfOk, IfErr, sym, ap, ◌∙◌, subst, inl, inr, ⊎_elim, append_assoc, append-nil, arith}
+-- What `try_collect` gathers of a source whose items a closure reads. Assumes nothing.
+use Rattle.std.proofs.Common.{◌≡◌, ℕ, zero, suc, ◌+◌, ◌<◌, ◌≤◌, ◌⊎◌, List, [], ◌∷◌, ◌++◌, length, Option, Some, None, Ok, Err, Result, Vec, Bor, vec_items, vec_len, vec_capacity, IfOk, IfErr, sym, refl, ap, ◌∙◌, subst, inl, inr, ⊎_elim, append_assoc, append-nil, arith}
 use Rattle.std.specs.Fn.{Called}
 use Rattle.std.specs.Iterator.{Drains, TryCollects, Yields}
 use Rattle.std.specs.Iterator.Adapters.{map_callee, map_source, map_steps}
@@ -7,47 +7,45 @@ use Rattle.std.specs.Iterator.Runs.{EndsAtFirstErr, SomeRun, YieldsRun}
 use Rattle.std.specs.List.{FoldsTo, slice_get}
 use Rattle.std.specs.Option.{IsSomeAnd}
 use Rattle.std.specs.declared.iter.Map.{Map}
-use Rattle.tables.specs.Pieces.{Blanks, First, NextPiece, left}
+use Rattle.tables.specs.Pieces.{NextPiece, left}
 use Rattle.tables.specs.declared.pieces.Pieces.{Pieces}
 use denote.Param.Members.{Mut}
 
-module _ {X : Type 0} (R : List ℕ → X → Type 0) where
-  -- the pieces of bs are read as the items xs, in order, each as R says
-  abbrev pub AllRead : List ℕ → List X → Type 0
-  AllRead bs [] = Blanks true bs
-  AllRead bs (x ∷ xs) = (p : List ℕ) × (rest : List ℕ) × First bs p rest × R p x × AllRead rest xs
+-- what `Pieces` gives next
+abbrev pub GivesPiece : Pieces → Option (Bor (List ℕ)) → Pieces → Type 0
+GivesPiece s r t = NextPiece (left s) r (left t)
 
-  -- the first pieces of bs are read as the items xs, and the next is p
-  abbrev pub ReadTo : List ℕ → List X → List ℕ → Type 0
-  ReadTo bs [] p = (rest : List ℕ) × First bs p rest
-  ReadTo bs (x ∷ xs) p = (q : List ℕ) × (rest : List ℕ) × First bs q rest × R q x × ReadTo rest xs p
+module _ {S A : Type 0} (steps : S → Option A → S → Type 0) where
+  -- from s up to t the items xs are read, in order, each of what comes as R says
+  abbrev pub ReadsTo : {X : Type 0} → (A → X → Type 0) → S → List X → S → Type 0
+  ReadsTo R s [] t = s ≡ t
+  ReadsTo R s (x ∷ xs) t = (a : A) × (j : S) × steps s (Some a) j × R a x × ReadsTo R j xs t
 
-module _ {X E Z : Type 0} (P : List ℕ → Result X E → Type 0) (Want : E → Type 0) where
-  -- all the pieces of bs are read, or the first is refused that is none, or memory is wanting
-  abbrev pub Gathered : List ℕ → Result (Vec X Z) E → Type 0
-  Gathered bs (Ok v) = AllRead (λ p x. P p (Ok x)) bs (vec_items v)
-  Gathered bs (Err e) = Want e ⊎ ((xs : List X) × (p : List ℕ) × ReadTo (λ q x. P q (Ok x)) bs xs p × P p (Err e))
+  -- all that comes from s is read, or memory is wanting, or the first that comes and is refused gives the error
+  abbrev pub Gathered : {X E Z : Type 0} → (A → Result X E → Type 0) → (E → Type 0) → S → Result (Vec X Z) E → Type 0
+  Gathered P Want s (Ok v) = (t : S) × (u : S) × ReadsTo (λ a x. P a (Ok x)) s (vec_items v) t × steps t None u
+  Gathered {X} P Want s (Err e) = Want e ⊎ ((xs : List X) × (t : S) × (a : A) × (u : S) × ReadsTo (λ b x. P b (Ok x)) s xs t × steps t (Some a) u × P a (Err e))
 
--- each call of the closure f leaves it as it was, and P holds of the piece and the answer
-module _ {X E F : Type 0} (g : Mut F (Bor (List ℕ) × Unit {0}) (Result X E)) (f : F) (P : List ℕ → Result X E → Type 0) (calls : (b : Bor (List ℕ)) (r : Result X E) (h : F) → Called g f (b, tt) r h → (h ≡ f) × P b.now r) where
-  abbrev Steps : Map Pieces F → Option (Result X E) → Map Pieces F → Type 0
-  Steps = map_steps (λ s r t. NextPiece (left s) r (left t)) g
+-- each call of the closure f leaves it as it was, and P holds of the item and the answer
+module _ {S A X E F : Type 0} (steps : S → Option A → S → Type 0) (g : Mut F (A × Unit {0}) (Result X E)) (f : F) (P : A → Result X E → Type 0) (calls : (a : A) (r : Result X E) (h : F) → Called g f (a, tt) r h → (h ≡ f) × P a r) where
+  abbrev Answers : Map S F → Option (Result X E) → Map S F → Type 0
+  Answers = map_steps steps g
 
-  called : (k h : F) (b : Bor (List ℕ)) (r : Result X E) → k ≡ f → Called g k (b, tt) r h → (h ≡ f) × P b.now r
-  called k h b r same call = calls b r h (subst (λ j. Called g j (b, tt) r h) same call)
+  called : (k h : F) (a : A) (r : Result X E) → k ≡ f → Called g k (a, tt) r h → (h ≡ f) × P a r
+  called k h a r same call = calls a r h (subst (λ j. Called g j (a, tt) r h) same call)
 
-  -- the answers rs come, and the one at the place i is the first fault
-  to-fault : (s t : Map Pieces F) (rs : List (Result X E)) (i : ℕ) (e : E) → map_callee s ≡ f → Yields Steps s rs t → IsSomeAnd (slice_get rs i) (λ r. Err e ≡ r) → ((k : ℕ) → k < i → IsSomeAnd (slice_get rs k) (λ r. (x : X) × (Ok x ≡ r))) → (xs : List X) × (p : List ℕ) × ReadTo (λ q x. P q (Ok x)) (left (map_source s)) xs p × P p (Err e)
-  to-fault s t [] i e same run bad good = absurd bad
-  to-fault s t (r ∷ rs) zero e same run bad good =
-      let (b, first, call) = run.1 in
-      ([], b.now, (left (map_source run.0), first), subst (P b.now) (sym bad) (called (map_callee s) (map_callee run.0) b r same call).1)
-  to-fault s t (r ∷ rs) (suc i) e same run bad good =
-      let (b, first, call) = run.1 in
-      let (kept, read) = called (map_callee s) (map_callee run.0) b r same call in
+  -- the answers rs come, and the one at the place i is the first error
+  to-error : (s t : Map S F) (rs : List (Result X E)) (i : ℕ) (e : E) → map_callee s ≡ f → Yields Answers s rs t → IsSomeAnd (slice_get rs i) (λ r. Err e ≡ r) → ((k : ℕ) → k < i → IsSomeAnd (slice_get rs k) (λ r. (x : X) × (Ok x ≡ r))) → (xs : List X) × (j : S) × (a : A) × (u : S) × ReadsTo steps (λ b x. P b (Ok x)) (map_source s) xs j × steps j (Some a) u × P a (Err e)
+  to-error s t [] i e same run bad good = absurd bad
+  to-error s t (r ∷ rs) zero e same run bad good =
+      let (a, step, call) = run.1 in
+      ([], map_source s, a, map_source run.0, refl, step, subst (P a) (sym bad) (called (map_callee s) (map_callee run.0) a r same call).1)
+  to-error s t (r ∷ rs) (suc i) e same run bad good =
+      let (a, step, call) = run.1 in
+      let (kept, read) = called (map_callee s) (map_callee run.0) a r same call in
       let (x, is) = good zero (omega arith) in
-      let (xs, p, to, why) = to-fault run.0 t rs i e kept run.2 bad (λ k l. good (suc k) (omega arith)) in
-      (x ∷ xs, p, (b.now, left (map_source run.0), first, subst (P b.now) (sym is) read, to), why)
+      let (xs, j, b, u, on, last, why) = to-error run.0 t rs i e kept run.2 bad (λ k l. good (suc k) (omega arith)) in
+      (x ∷ xs, j, b, u, (a, map_source run.0, step, subst (P a) (sym is) read, on), last, why)
 
   module _ {Z : Type 0} where
     abbrev Collects : List X → Vec X Z → Type 0
@@ -60,31 +58,32 @@ module _ {X E F : Type 0} (g : Mut F (Bor (List ℕ) × Unit {0}) (Result X E)) 
     Pushes v r w = (x : X) × (Ok x ≡ r) × Extends v (x ∷ []) w
 
     -- the answers rs come, all of them items, and then no more
-    to-end : (s : Map Pieces F) (rs : List (Result X E)) (v w : Vec X Z) → map_callee s ≡ f → Drains Steps s rs → FoldsTo Pushes v rs w → (xs : List X) × (vec_items w ≡ vec_items v ++ xs) × AllRead (λ p x. P p (Ok x)) (left (map_source s)) xs
-    to-end s [] v w same end fold =
-        ([], ap vec_items (sym fold) ∙ sym (append-nil (vec_items v)), subst (λ u. Blanks true (left (map_source u))) (sym end.1.1) end.1.2.0.0)
-    to-end s (r ∷ rs) v w same end fold =
-        let (b, first, call) = end.1.1.1 in
-        let (kept, read) = called (map_callee s) (map_callee end.1.1.0) b r same call in
+    to-end : (s : Map S F) (rs : List (Result X E)) (v w : Vec X Z) → map_callee s ≡ f → Drains Answers s rs → FoldsTo Pushes v rs w → (xs : List X) × (vec_items w ≡ vec_items v ++ xs) × ((t : S) × (u : S) × ReadsTo steps (λ a x. P a (Ok x)) (map_source s) xs t × steps t None u)
+    to-end s [] v w same (u, (t, at, end)) fold =
+        ([], ap vec_items (sym fold) ∙ sym (append-nil (vec_items v)), (map_source t, map_source u, ap map_source at, end.0))
+    to-end s (r ∷ rs) v w same (u, (t, (j, answer, run), end)) fold =
+        let (a, step, call) = answer in
+        let (kept, read) = called (map_callee s) (map_callee j) a r same call in
         let (x, is, pushed) = fold.1 in
-        let (xs, items, on) = to-end end.1.1.0 rs fold.0 w kept (end.0, (end.1.0, end.1.1.2, end.1.2)) fold.2 in (
+        let (xs, items, on) = to-end j rs fold.0 w kept (u, (t, run, end)) fold.2 in (
           x ∷ xs,
           items ∙ ap (λ l. l ++ xs) pushed.0 ∙ append_assoc (vec_items v) (x ∷ []) xs,
-          (b.now, left (map_source end.1.1.0), first, subst (P b.now) (sym is) read, on),
+          (on.0, on.1, (a, map_source j, step, subst (P a) (sym is) read, on.2), on.3),
         )
 
-    -- what `try_collect` answers
-    pub gathered : (Want : E → Type 0) (bs : List ℕ) (s : Map Pieces F) (r : Result (Vec X Z) E) → map_callee s ≡ f → left (map_source s) ≡ bs → IfOk r (TryCollects Steps (λ x y. y ≡ x) Collects Extends s) → IfErr r (λ e. Want e ⊎ SomeRun Steps s (λ p. EndsAtFirstErr p (λ x y. y ≡ x) e)) → Gathered P Want bs r
+    -- what `try_collect` answers, over `map` with this closure
+    pub gathered : (Want : E → Type 0) (i : S) (s : Map S F) (r : Result (Vec X Z) E) → map_callee s ≡ f → map_source s ≡ i → IfOk r (TryCollects Answers (λ x y. y ≡ x) Collects Extends s) → IfErr r (λ e. Want e ⊎ SomeRun Answers s (λ p. EndsAtFirstErr p (λ x y. y ≡ x) e)) → Gathered steps P Want i r
     unfolding YieldsRun
-    gathered Want bs s (Ok v) same whole all none =
-        let (xs, items, read) = to-end s all.0 all.1 v same all.2 all.4 in
-        subst (λ l. AllRead (λ p x. P p (Ok x)) l (vec_items v)) whole (subst (AllRead (λ p x. P p (Ok x)) (left (map_source s))) (sym (items ∙ ap (λ l. l ++ xs) all.3.0)) read)
-    gathered Want bs s (Err e) same whole none bad =
+    gathered Want i s (Ok v) same source all none =
+        let (xs, items, (t, u, on, end)) = to-end s all.0 all.1 v same all.2 all.4 in
+        let whole = items ∙ ap (λ l. l ++ xs) all.3.0 in
+        (t, u, subst (λ j. ReadsTo steps (λ a x. P a (Ok x)) j (vec_items v) t) source (subst (λ l. ReadsTo steps (λ a x. P a (Ok x)) (map_source s) l t) (sym whole) on), end)
+    gathered Want i s (Err e) same source none bad =
         ⊎_elim
         (λ want. inl want)
         (λ run.
-        let (p, from, (i, long, at, before)) = run in
-        let (xs, piece, to, why) = to-fault p.from p.gave.0.0 p.items i e (ap map_callee from ∙ same) p.gave.0.1
-        (subst (λ o. IsSomeAnd o (λ r. Err e ≡ r)) (p.gave.1 i) at)
+        let (p, from, (n, long, at, before)) = run in
+        let (xs, t, a, u, on, last, why) = to-error p.from p.gave.0.0 p.items n e (ap map_callee from ∙ same) p.gave.0.1
+        (subst (λ o. IsSomeAnd o (λ r. Err e ≡ r)) (p.gave.1 n) at)
         (λ k l. subst (λ o. IsSomeAnd o (λ r. (x : X) × (Ok x ≡ r))) (p.gave.1 k) (before k l)) in
-        inr (xs, piece, subst (λ l. ReadTo (λ q x. P q (Ok x)) l xs piece) (ap (λ u. left (map_source u)) from ∙ whole) to, why)) bad
+        inr (xs, t, a, u, subst (λ j. ReadsTo steps (λ b x. P b (Ok x)) j xs t) (ap map_source from ∙ source) on, last, why)) bad
