@@ -16,7 +16,7 @@ pub(crate) enum Label {
 }
 
 impl Label {
-    // Kept: it is compared with a piece of text, and not printed.
+    // Kept: no `Display`, since it is compared with a piece of text and not printed.
     fn word(self) -> &'static str
         ensures { result.now ≡ label_word self }
     {

@@ -49,7 +49,8 @@ pub(crate) fn read_number(line: Line, text: &str) -> Result<(usize, &str), Scrip
 }
 
 // The number that is all the text has.
-// Kept: beside the hasher of a heading; a function of a reader, with a contract over what the reader may answer, is longer.
+// Kept: the hasher's name at the end of a heading is read alike; one function that takes a reader, with a contract over
+// what the reader may answer, is longer than the two.
 pub(crate) fn read_sole_number(line: Line, text: &str) -> Result<usize, ScriptFault>
     ensures { Reads line.number (λ k. k) (λ k. Run text.now (k ∷ [])) result }
 {

@@ -7,13 +7,9 @@ use std::process::Abort;
 use std::test::Fail;
 
 fn faults(rt: &impl Abort, heap: Global, bytes: &[u8], expected: &str) -> Result<(), Fail> {
-    match read_script(heap, bytes) {
-        Ok(_) => Err(Fail::new("no fault")),
-        Err(fault) => {
-            assert_eq!(rt; format!(in heap; "{fault}")?.as_str(), expected);
-            Ok(())
-        },
-    }
+    let fault = read_script(heap, bytes).err().ok_or("no fault")?;
+    assert_eq!(rt; format!(in heap; "{fault}")?.as_str(), expected);
+    Ok(())
 }
 
 fn reads(rt: &impl Abort, heap: Global, bytes: &[u8], expected: &str) -> Result<(), Fail> {
@@ -54,7 +50,7 @@ fn reads_a_heading_alone(rt: HostRuntime) -> Result<(), Fail> {
     )?;
     match script {
         Script::Rules(heading, calls) => {
-            assert!(rt; heading.hasher == HasherName::Rotating);
+            assert_eq!(rt; heading.hasher, HasherName::Rotating);
             assert!(rt; calls.is_empty());
             Ok(())
         }

@@ -6,13 +6,9 @@ use std::test::Fail;
 
 // What the fault of a text says after its line.
 fn said(heap: Global, bytes: &[u8]) -> Result<String, Fail> {
-    match read_bytes(heap, bytes) {
-        Ok(_) => Err(Fail::new("no fault")),
-        Err(fault) => {
-            let line = fault.line().unwrap_or(0);
-            Ok(format!(in heap; "{line}: {fault}")?)
-        }
-    }
+    let fault = read_bytes(heap, bytes).err().ok_or("no fault")?;
+    let line = fault.line().ok_or("no line")?;
+    Ok(format!(in heap; "{line}: {fault}")?)
 }
 
 fn faults(rt: &impl Abort, heap: Global, bytes: &[u8], expected: &str) -> Result<(), Fail> {
@@ -72,9 +68,9 @@ fn reads_rules(rt: HostRuntime) -> Result<(), Fail> {
         rt.alloc(),
         b"# t\r\n flute 8 :\t0xfF 0 4294967295\n\nempty:\n",
     )?;
-    assert!(rt; entries.len() == 2);
+    assert_eq!(rt; entries.len(), 2);
     assert_eq!(rt; entries[0].name.as_str(), "flute 8");
-    assert!(rt; entries[0].words.as_slice() == [255, 0, 4294967295].as_slice());
+    assert_eq!(rt; entries[0].words.as_slice(), [255, 0, 4294967295].as_slice());
     assert_eq!(rt; entries[0].line, 2);
     assert_eq!(rt; entries[1].name.as_str(), "empty");
     assert!(rt; entries[1].words.is_empty());
