@@ -1,10 +1,10 @@
 -- The lines of a script, one more of them. Assumes nothing.
 use Rattle.std.proofs.Common.{◌≡◌, ℕ, ◌+◌, true, false, ◌⊎◌, List, [], ◌∷◌, ◌++◌, length, IsErrAnd, Some, None, Ok, Err, Option, Result, sym, refl, ap, ◌∙◌, subst, inl, inr, ⊎_elim, append_assoc, append-nil, arith}
-use Rattle.std.proofs.lemmas.List.{length_push}
+use Rattle.std.proofs.lemmas.Bool.{MatchBool-at_true, MatchBool-at_false}
+use Rattle.std.proofs.lemmas.List.{map_push, length_push}
 use Rattle.tables.specs.Lines.{content, skipped}
 use Rattle.tables.specs.Rules.{lines}
 use Rattle.tables.proofs.Reading.{when_true, when_false}
-use Rattle.tables.proofs.Sole.{at_true, at-false}
 use Rattle.scripts.specs.Calls.{Told, told, told_all, CallAs}
 use Rattle.scripts.specs.Headings.{HeadingAs}
 use Rattle.scripts.specs.Readings.{line_of, Sole, NoneIs}
@@ -15,12 +15,8 @@ use Rattle.scripts.specs.declared.fault.ScriptFault.TheVariants.{Memory}
 use Rattle.scripts.specs.declared.heading.Heading.{Heading}
 use Rattle.scripts.specs.declared.heading.Kind.{Kind}
 
-told-append : (xs ys : List (Call ℕ)) → told_all (xs ++ ys) ≡ told_all xs ++ told_all ys
-told-append [] ys = refl
-told-append (x ∷ xs) ys = ap (λ l. told x ∷ l) (told-append xs ys)
-
 pub told_push : (ms ns : List (Call ℕ)) (x : Call ℕ) → ms ≡ ns ++ (x ∷ []) → told_all ms ≡ told_all ns ++ (told x ∷ [])
-told_push ms ns x e = ap told_all e ∙ told-append ns (x ∷ [])
+told_push ms ns x e = ap told_all e ∙ map_push told ns x
 
 -- what the lines that are left have to be, given the heading and the calls so far
 abbrev pub Left : Option (Kind × Heading) → List Told → List (List ℕ) → Whole → Type 0
@@ -64,9 +60,9 @@ skip-on (Some v) ts l ls s e x =
     (x.0, (x.1.0, x.1.1, when_true (skipped (content l)) (CallsIn (limit_of v.0) ls x.1.0) (Next (limit_of v.0) l ls x.1.0) e x.1.2))
 
 skip-back : (h : Option (Kind × Heading)) (ts : List Told) (l : List ℕ) (ls : List (List ℕ)) (s : Whole) → skipped (content l) ≡ true → Left h ts (l ∷ ls) s → Left h ts ls s
-skip-back None ts l ls s e x = at_true (skipped (content l)) (ScriptIn ls s) (Head l ls s) e x
+skip-back None ts l ls s e x = MatchBool-at_true (ScriptIn ls s) (Head l ls s) e x
 skip-back (Some v) ts l ls s e x =
-    (x.0, (x.1.0, x.1.1, at_true (skipped (content l)) (CallsIn (limit_of v.0) ls x.1.0) (Next (limit_of v.0) l ls x.1.0) e x.1.2))
+    (x.0, (x.1.0, x.1.1, MatchBool-at_true (CallsIn (limit_of v.0) ls x.1.0) (Next (limit_of v.0) l ls x.1.0) e x.1.2))
 
 -- a heading
 head-on : (v : Kind × Heading) (ts : List Told) (l : List ℕ) (ls : List (List ℕ)) (s : Whole) → skipped (content l) ≡ false → ts ≡ [] → HeadingAs (content l) v → Left (Some v) ts ls s → ScriptIn (l ∷ ls) s
@@ -78,7 +74,7 @@ head-on v ts l ls s plain none head x =
 
 head-back : (v : Kind × Heading) (ts : List Told) (l : List ℕ) (ls : List (List ℕ)) (s : Whole) → skipped (content l) ≡ false → ts ≡ [] → Sole (HeadingAs (content l)) v → ScriptIn (l ∷ ls) s → Left (Some v) ts ls s
 head-back v ts l ls s plain none one x =
-    let here = at-false (skipped (content l)) (ScriptIn ls s) (Head l ls s) plain x in
+    let here = MatchBool-at_false (ScriptIn ls s) (Head l ls s) plain x in
     let same = one.only s.0 here.0 in
     (same, (s.1, sym (ap (λ xs. xs ++ s.1) none), subst (λ w. CallsIn (limit_of w.0) ls s.1) same here.1))
 
@@ -88,7 +84,7 @@ call-on v ts t l ls s plain call x =
     (x.0, (t ∷ x.1.0, x.1.1 ∙ append_assoc ts (t ∷ []) x.1.0, when_false (skipped (content l)) (CallsIn (limit_of v.0) ls (t ∷ x.1.0)) (Next (limit_of v.0) l ls (t ∷ x.1.0)) plain (t, x.1.0, refl, call, x.1.2)))
 
 call-here : (v : Kind × Heading) (ts : List Told) (l : List ℕ) (ls : List (List ℕ)) (s : Whole) → skipped (content l) ≡ false → (x : Left (Some v) ts (l ∷ ls) s) → Next (limit_of v.0) l ls x.1.0
-call-here v ts l ls s plain x = at-false (skipped (content l)) (CallsIn (limit_of v.0) ls x.1.0) (Next (limit_of v.0) l ls x.1.0) plain x.1.2
+call-here v ts l ls s plain x = MatchBool-at_false (CallsIn (limit_of v.0) ls x.1.0) (Next (limit_of v.0) l ls x.1.0) plain x.1.2
 
 call_back : (v : Kind × Heading) (ts : List Told) (t : Told) (l : List ℕ) (ls : List (List ℕ)) (s : Whole) → skipped (content l) ≡ false → Sole (CallAs (limit_of v.0) (content l)) t → Left (Some v) ts (l ∷ ls) s → Left (Some v) (ts ++ (t ∷ [])) ls s
 call_back v ts t l ls s plain one x =
@@ -136,7 +132,7 @@ module _ (text l : List ℕ) (left : List (List ℕ)) (line : ℕ) (ts : List To
   pub heading-stops : (f : ScriptFault) → (f ≡ Memory) ⊎ ((line_of f ≡ Some (line + 1)) × NoneIs (HeadingAs (content l))) → FaultOf (lines text) f
   heading-stops f bad =
       line-stops text l left line None ts old (HeadingAs (content l)) f
-      (λ none more s x. none s.0 (at-false (skipped (content l)) (ScriptIn more s) (Head l more s) plain x).0) bad
+      (λ none more s x. none s.0 (MatchBool-at_false (ScriptIn more s) (Head l more s) plain x).0) bad
 
 module _ (text l : List ℕ) (left : List (List ℕ)) (line : ℕ) (v : Kind × Heading) (ts : List Told) (old : Sofar text (l ∷ left) line (Some v) ts) (plain : skipped (content l) ≡ false) where
   pub call_line : (t : Told) → Sole (CallAs (limit_of v.0) (content l)) t → Sofar text left (line + 1) (Some v) (ts ++ (t ∷ []))

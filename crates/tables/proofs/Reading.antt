@@ -17,14 +17,12 @@ use Rattle.tables.specs.Rules.{lines, name_of, Holds, Apart, Stands, FaultAfter,
 use Rattle.tables.proofs.Ordered.{empty-ordered}
 use Rattle.std.specs.String.{string_cmp}
 
--- When, by cases
+-- what holds at a test that came out so
 pub when_true : (b : Bool) (P Q : Type 0) → b ≡ true → P → MatchBool b P Q
-when_true true P Q e p = p
-when_true false P Q e p = absurd (let z : ◌≡◌ {A = ℕ} 0 1 = cc in omega arith)
+when_true b P Q e p = subst (λ t. MatchBool t P Q) (sym e) p
 
 pub when_false : (b : Bool) (P Q : Type 0) → b ≡ false → Q → MatchBool b P Q
-when_false true P Q e q = absurd (let z : ◌≡◌ {A = ℕ} 0 1 = cc in omega arith)
-when_false false P Q e q = q
+when_false b P Q e q = subst (λ t. MatchBool t P Q) (sym e) q
 
 when-map : (b : Bool) (P Q P' Q' : Type 0) → (P → P') → (Q → Q') → MatchBool b P Q → MatchBool b P' Q'
 when-map true P Q P' Q' f g h = f h

@@ -70,7 +70,10 @@ fn reads_rules(rt: HostRuntime) -> Result<(), Fail> {
     )?;
     assert_eq!(rt; entries.len(), 2);
     assert_eq!(rt; entries[0].name.as_str(), "flute 8");
-    assert_eq!(rt; entries[0].words.as_slice(), [255, 0, 4294967295].as_slice());
+    assert_eq!(rt;
+        entries[0].words.as_slice(),
+        [255, 0, 4294967295].as_slice()
+    );
     assert_eq!(rt; entries[0].line, 2);
     assert_eq!(rt; entries[1].name.as_str(), "empty");
     assert!(rt; entries[1].words.is_empty());
