@@ -22,9 +22,6 @@ Ends q h = (h ≡ q.0) × Blanks true q.1
 pub named-sole : (bs rest : List ℕ) (h : HasherName) → Sole (WordTo spelling bs) (h, rest) → Blanks true rest → Sole (HasherNamed bs) h
 named-sole bs rest h one all = then-sole (WordTo spelling bs) Ends (h, rest) h one (end_sole h (Blanks true rest) all)
 
-pub named-missing : (bs : List ℕ) → NoneIs (WordTo spelling bs) → NoneIs (HasherNamed bs)
-named-missing bs none = first-none (WordTo spelling bs) Ends none
-
 pub named_more : (bs rest : List ℕ) (h : HasherName) → Sole (WordTo spelling bs) (h, rest) → NoneIs (λ (_ : Unit {0}). Blanks true rest) → NoneIs (HasherNamed bs)
 named_more bs rest h one none = then-none (WordTo spelling bs) Ends (h, rest) one (end_none h (Blanks true rest) none)
 

@@ -1,5 +1,5 @@
 -- The lines of a script, one more of them. Assumes nothing.
-use Rattle.std.proofs.Common.{◌≡◌, ℕ, ◌+◌, true, false, ◌⊎◌, List, [], ◌∷◌, ◌++◌, length, IsErrAnd, Some, None, Ok, Err, Option, Result, sym, refl, ap, ◌∙◌, subst, inl, inr, ⊎_elim, append_assoc, append-nil, arith}
+use Rattle.std.proofs.Common.{◌≡◌, ℕ, ◌+◌, true, false, ◌⊎◌, List, [], ◌∷◌, ◌++◌, length, IsErrAnd, Some, None, Ok, Err, Option, Result, sym, refl, ap, ◌∙◌, subst, inl, inr, ⊎_elim, append_assoc, arith}
 use Rattle.std.proofs.lemmas.Bool.{MatchBool-at_true, MatchBool-at_false}
 use Rattle.std.proofs.lemmas.List.{map_push, length_push}
 use Rattle.tables.specs.Lines.{content, skipped}
@@ -35,16 +35,6 @@ pub record Sofar (text : List ℕ) (left : List (List ℕ)) (line : ℕ) (h : Op
   pub fresh : Fresh h ts
   pub on : (more : List (List ℕ)) (s : Whole) → Left h ts more s → ScriptIn (done ++ more) s
   pub back : (more : List (List ℕ)) (s : Whole) → ScriptIn (done ++ more) s → Left h ts more s
-
-pub none_yet : (text : List ℕ) (ts : List Told) → ts ≡ [] → Sofar text (lines text) 0 None ts
-none_yet text ts e = record {
-  done = [];
-  whole = refl;
-  count = refl;
-  fresh = e;
-  on = λ more s x. x;
-  back = λ more s x. x;
-}
 
 -- the first line that counts, and a line after it
 abbrev Head : List ℕ → List (List ℕ) → Whole → Type 0
@@ -144,20 +134,6 @@ module _ (text l : List ℕ) (left : List (List ℕ)) (line : ℕ) (v : Kind × 
   call-stops f bad =
       line-stops text l left line (Some v) ts old (CallAs (limit_of v.0) (content l)) f
       (λ none more s x. let here = call-here v ts l more s plain x in none here.0 here.3) bad
-
-pub all_read : (text : List ℕ) (line : ℕ) (v : Kind × Heading) (ts : List Told) → Sofar text [] line (Some v) ts → Sole (ScriptIn (lines text)) (v, ts)
-all_read text line v ts old =
-    let same : lines text ≡ old.done ++ [] = old.whole in
-    record {
-      holds = subst (λ ls. ScriptIn ls (v, ts)) (sym same) (old.on [] (v, ts) (refl, ([], sym (append-nil ts), refl)));
-      only = λ s x.
-          let t = old.back [] s (subst (λ ls. ScriptIn ls s) same x) in
-          let calls : s.1 ≡ ts = t.1.1 ∙ ap (λ us. ts ++ us) t.1.2 ∙ append-nil ts in
-          (λ i. (t.0 i, calls i));
-    }
-
-pub none_read : (text : List ℕ) (line : ℕ) (ts : List Told) → Sofar text [] line None ts → NoneIs (ScriptIn (lines text))
-none_read text line ts old = λ s x. old.back [] s (subst (λ ls. ScriptIn ls s) old.whole x)
 
 -- one call more, as the list of calls has it
 pub again-told : (text l : List ℕ) (left : List (List ℕ)) (line : ℕ) (h : Option (Kind × Heading)) (v : Kind × Heading) (ns ms : List (Call ℕ)) → Sofar text (l ∷ left) line (Some v) (told_all ns) → skipped (content l) ≡ false → (x : Call ℕ) → Sole (CallAs (limit_of v.0) (content l)) (told x) → h ≡ Some v → ms ≡ ns ++ (x ∷ []) → Sofar text left (line + 1) h (told_all ms)

@@ -12,7 +12,7 @@ use Rattle.tables.specs.declared.pieces.Pieces.{Pieces}
 use Rattle.tables.proofs.Cuts.{blanks-append}
 use Rattle.tables.proofs.Gathered.{Gathered, GivesPiece, ReadsTo}
 
-pub run-fault : (n : ℕ) (run ws p : List ℕ) (w : WordFault) (f : TableFault) → RunTo run ws p → ReadAs p (Err w) → PieceFault n p w f → RunFault n run f
+run-fault : (n : ℕ) (run ws p : List ℕ) (w : WordFault) (f : TableFault) → RunTo run ws p → ReadAs p (Err w) → PieceFault n p w f → RunFault n run f
 run-fault n run ws p w (NoColon k) to why h = h
 run-fault n run ws p w (NoName k) to why h = h
 run-fault n run ws p w (NotANumber k found) to why h = (h.1, (ws, p, to, subst (λ v. ReadAs p (Err v)) h.0 why, h.2))

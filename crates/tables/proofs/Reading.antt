@@ -1,5 +1,5 @@
 -- The rules of a table, one line more. Assumes nothing.
-use Rattle.std.proofs.Common.{◌≡◌, ℕ, suc, ◌+◌, ◌<◌, Bool, true, false, true≢false, cond, ◌⊎◌, List, [], ◌∷◌, ◌++◌, length, get_or, Some, None, string_bytes, MatchBool, Option, String, sym, refl, ap, ◌∙◌, subst, inl, inr, ⊎_elim, append_assoc, append-nil, arith}
+use Rattle.std.proofs.Common.{◌≡◌, ℕ, suc, ◌+◌, ◌<◌, Bool, true, false, true≢false, cond, ◌⊎◌, List, [], ◌∷◌, ◌++◌, length, get_or, Some, None, string_bytes, MatchBool, Option, String, sym, refl, ap, ◌∙◌, subst, inl, inr, ⊎_elim, append_assoc, arith}
 use Rattle.std.specs.BTreeMap.{get_by_text, is_at, IsEmpty, IsOrdered}
 use Rattle.std.specs.Cmp.Lexicographic.{slice_cmp}
 use Rattle.std.specs.Map.{lookup, update}
@@ -153,9 +153,6 @@ module _ {Y : Type 0} where
     apart = λ i j d before within same. absurd (omega arith);
     noted = noted-none m none;
   }
-
-  pub all_read : (text : List ℕ) (line : ℕ) (es : List Entry) (m : BTreeMap (String Y) ℕ) → Sofar text [] line es m → Holds 1 (lines text) es × Apart es
-  all_read text line es m old = (subst (λ ls. Holds 1 ls es) (sym (old.whole ∙ append-nil old.done)) old.held, old.apart)
 
   module _ (text l : List ℕ) (left : List (List ℕ)) (line : ℕ) (es : List Entry) (m : BTreeMap (String Y) ℕ) (old : Sofar text (l ∷ left) line es m) where
     longer : line + 1 ≡ length (old.done ++ (l ∷ []))

@@ -11,7 +11,7 @@ use Rattle.tables.specs.declared.line.Entry.{Entry}
 use Rattle.tables.specs.Lines.{content, skipped, Parted, RuleAt, LineFault, LineAs, KeepsRules}
 use Rattle.tables.specs.Numerals.{Writes, NoNumber, WideNumber}
 use Rattle.tables.specs.Pieces.{blank, Blanks, Trimmed, First, Run, RunTo}
-use Rattle.tables.specs.Rules.{lines, name_of, Holds, Apart, FaultAfter, FaultIn, TableAs, BytesAs, KeepsTables}
+use Rattle.tables.specs.Rules.{lines, name_of, Holds, Apart, FaultAfter, FaultIn, TableAs, KeepsTables}
 use Rattle.tables.proofs.Numbers.{writes_one}
 use Rattle.tables.proofs.Reading.{when_true, when_false}
 
@@ -239,6 +239,3 @@ keeps-tables text (Err f) h = λ es held apart. ⊎_elim (λ e. e) (λ bad. absu
 
 pub no_text : (bytes : List ℕ) (at : ℕ) → IsValidUpTo bytes at → IsUtf8 bytes → ⊥
 no_text bytes at h u = h.longest (length bytes) h.short (subst IsUtf8 (sym (take_all (length bytes) bytes (omega arith))) u)
-
-pub keeps-texts : {Z : Type 0} (bytes : List ℕ) (r : Result (Vec Entry Z) TableFault) → BytesAs bytes r → IsUtf8 bytes → KeepsTables bytes r
-keeps-texts bytes r h u = ⊎_elim (λ p. keeps-tables bytes r p.1) (λ q. absurd (no_text bytes q.0 q.1 u)) h
