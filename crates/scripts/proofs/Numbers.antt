@@ -45,6 +45,7 @@ alone-more bs rest k one none = λ n h.
     let same = one.only (n, h.1) (h.0, h.2, h.3, h.4) in
     none tt (subst (Blanks true) (ap (λ q. q.1) same) h.5)
 
+-- a piece that writes no unit
 pub unit-bad : (limit : ℕ) (p : List ℕ) (w : WordFault) → ReadAs p (Err w) → NoneIs (UnitAt limit p)
 unit-bad limit p w bad = λ k h. no_word p k h.0 h.1 (bad-word p w bad)
 

@@ -40,7 +40,7 @@ impl FromStr for Kind {
     ghost from_str_gives = { WordAs kind_word };
 
     fn from_str(text: &str) -> Result<Kind, UnknownWord> {
-        // Kept: a search of a list of both by their words takes the same arms, turned round, and the list beside them.
+        // Kept: a search of a list of both by their words takes the same arms, turned round, and the list beside.
         match text {
             "rules" => Ok(Kind::Rules),
             "names" => Ok(Kind::Names),

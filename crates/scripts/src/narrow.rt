@@ -24,8 +24,8 @@ fn narrow_call(heap: Global, call: &Call<u32>) -> Result<Call<u8>, ScriptFault>
     ensures { Kept told (told call.now) result }
 {
     match call {
-        Call::Enter(units) => Ok(Call::Enter(narrow_units(heap, units.as_slice())?)),
-        Call::Find(units) => Ok(Call::Find(narrow_units(heap, units.as_slice())?)),
+        Call::Enter(units) => narrow_units(heap, units.as_slice()).map(Call::Enter),
+        Call::Find(units) => narrow_units(heap, units.as_slice()).map(Call::Find),
         Call::Cut(k) => Ok(Call::Cut(*k)),
         Call::Count => Ok(Call::Count),
         Call::Class(k) => Ok(Call::Class(*k)),

@@ -11,52 +11,45 @@ fn said(heap: Global, bytes: &[u8]) -> Result<String, Fail> {
     Ok(format!(in heap; "{line}: {fault}")?)
 }
 
-fn faults(rt: &impl Abort, heap: Global, bytes: &[u8], expected: &str) -> Result<(), Fail> {
-    assert_eq!(rt; said(heap, bytes)?.as_str(), expected);
+fn faults<R: Abort + AllocGlobal>(rt: &R, bytes: &[u8], expected: &str) -> Result<(), Fail> {
+    assert_eq!(rt; said(rt.alloc(), bytes)?.as_str(), expected);
     Ok(())
 }
 
 #[test]
 fn shows_each_fault(rt: HostRuntime) -> Result<(), Fail> {
-    let heap = rt.alloc();
     faults(
         &rt,
-        heap,
         b"a: 1\nno colon",
         "2: expected a colon after the name of a rule",
     )?;
     faults(
         &rt,
-        heap,
         b"# none\n\n \t: 1",
         "3: expected a name before the colon",
     )?;
     faults(
         &rt,
-        heap,
         b"a: 1\r\nb: 2\r\n a :3",
         "3: expected a new name, found \"a\", which stands at line 1",
     )?;
     faults(
         &rt,
-        heap,
         b"a: 1 12x 2",
         "1: expected a number from 0 to 4294967295, found \"12x\"",
     )?;
     faults(
         &rt,
-        heap,
         b"a: 4294967296",
         "1: expected a number from 0 to 4294967295, found \"4294967296\"",
     )?;
-    faults(&rt, heap, b"a: 1\nb: \xff", "2: expected UTF-8 text")
+    faults(&rt, b"a: 1\nb: \xff", "2: expected UTF-8 text")
 }
 
 #[test]
 fn cuts_a_long_word(rt: HostRuntime) -> Result<(), Fail> {
     faults(
         &rt,
-        rt.alloc(),
         b"a: 0123456789012345678901234567890123456789y",
         "1: expected a number from 0 to 4294967295, found \"0123456789012345678901234567890123456789...\"",
     )
