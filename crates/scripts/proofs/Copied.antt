@@ -26,4 +26,4 @@ all-copied s t u (c ∷ cs) (d ∷ ds) yields copied end =
 
 pub copied-calls : {Z : Type 0} (s : Iter (Call ℕ)) (cs : List (Call ℕ)) (r : Result (Vec (Call ℕ) Z) ScriptFault) → iter_rest s ≡ cs → Gathered fronts IsCopy (λ f. AllocError × (f ≡ Memory)) s r → Kept (λ v. told_all (vec_items v)) (told_all cs) r
 copied-calls s cs (Ok v) whole h = all-copied s h.0 h.1 cs (vec_items v) (YieldsList-from_slice cs whole).runs h.2 h.3
-copied-calls s cs (Err f) whole h = ⊎_elim (λ want. want.1) (λ bad. let (xs, t, a, u, on, last, why) = bad in why) h
+copied-calls s cs (Err f) whole h = ⊎_elim (λ lack. lack.1) (λ bad. let (xs, t, a, u, on, last, why) = bad in why) h

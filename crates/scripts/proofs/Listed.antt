@@ -63,5 +63,5 @@ module _ (limit n : ℕ) where
       record { holds = all; only = λ us g. run-same (left s) us (vec_items v) g.run all.run }
   units-read s (Err f) h =
       ⊎_elim
-      (λ want. inl want.1)
+      (λ lack. inl lack.1)
       (λ bad. let (us, t, p, u, on, last, why) = bad in passed (UnitAt limit p.now) (Units limit (left s)) n f (no-units s t us p.now (left u) on last) why) h

@@ -38,7 +38,7 @@ module _ (n : ℕ) where
   run-as s (Ok v) h = all-words s h.0 (vec_items v) h.2 h.3.0
   run-as s (Err f) h =
       ⊎_elim
-      (λ want. subst (RunFault n (left s)) (sym want.1) tt)
+      (λ lack. subst (RunFault n (left s)) (sym lack.1) tt)
       (λ bad. let (ws, t, p, u, on, last, (w, why, told)) = bad in run-fault n (left s) ws p.now w f (words-to s t ws p.now (left u) on last) why told) h
 
 pub line-fault : (n : ℕ) (bs front run : List ℕ) (f : TableFault) → Parted bs front run → RunFault n run f → LineFault n bs f

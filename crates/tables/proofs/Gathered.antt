@@ -16,15 +16,15 @@ abbrev pub GivesPiece : Pieces → Option (Bor (List ℕ)) → Pieces → Type 0
 GivesPiece s r t = NextPiece (left s) r (left t)
 
 module _ {S A : Type 0} (steps : S → Option A → S → Type 0) where
-  -- from s up to t the items xs are read, in order, each of what comes as R says
+  -- what comes from s up to t is read as the items xs, one by one, as R says
   abbrev pub ReadsTo : {X : Type 0} → (A → X → Type 0) → S → List X → S → Type 0
   ReadsTo R s [] t = s ≡ t
   ReadsTo R s (x ∷ xs) t = (a : A) × (j : S) × steps s (Some a) j × R a x × ReadsTo R j xs t
 
-  -- all that comes from s is read, or memory is wanting, or the first that comes and is refused gives the error
+  -- all that comes from s is read, as P says; or the error is want of memory, or that of the first that is refused
   abbrev pub Gathered : {X E Z : Type 0} → (A → Result X E → Type 0) → (E → Type 0) → S → Result (Vec X Z) E → Type 0
-  Gathered P Want s (Ok v) = (t : S) × (u : S) × ReadsTo (λ a x. P a (Ok x)) s (vec_items v) t × steps t None u
-  Gathered {X} P Want s (Err e) = Want e ⊎ ((xs : List X) × (t : S) × (a : A) × (u : S) × ReadsTo (λ b x. P b (Ok x)) s xs t × steps t (Some a) u × P a (Err e))
+  Gathered P Lack s (Ok v) = (t : S) × (u : S) × ReadsTo (λ a x. P a (Ok x)) s (vec_items v) t × steps t None u
+  Gathered {X} P Lack s (Err e) = Lack e ⊎ ((xs : List X) × (t : S) × (a : A) × (u : S) × ReadsTo (λ b x. P b (Ok x)) s xs t × steps t (Some a) u × P a (Err e))
 
 -- each call of the closure f leaves it as it was, and P holds of the item and the answer
 module _ {S A X E F : Type 0} (steps : S → Option A → S → Type 0) (g : Mut F (A × Unit {0}) (Result X E)) (f : F) (P : A → Result X E → Type 0) (calls : (a : A) (r : Result X E) (h : F) → Called g f (a, tt) r h → (h ≡ f) × P a r) where
@@ -72,15 +72,15 @@ module _ {S A X E F : Type 0} (steps : S → Option A → S → Type 0) (g : Mut
         )
 
     -- what `try_collect` answers, over `map` with this closure
-    pub gathered : (Want : E → Type 0) (i : S) (s : Map S F) (r : Result (Vec X Z) E) → map_callee s ≡ f → map_source s ≡ i → IfOk r (TryCollects Answers (λ x y. y ≡ x) Collects Extends s) → IfErr r (λ e. Want e ⊎ SomeRun Answers s (λ p. EndsAtFirstErr p (λ x y. y ≡ x) e)) → Gathered steps P Want i r
+    pub gathered : (Lack : E → Type 0) (i : S) (s : Map S F) (r : Result (Vec X Z) E) → map_callee s ≡ f → map_source s ≡ i → IfOk r (TryCollects Answers (λ x y. y ≡ x) Collects Extends s) → IfErr r (λ e. Lack e ⊎ SomeRun Answers s (λ p. EndsAtFirstErr p (λ x y. y ≡ x) e)) → Gathered steps P Lack i r
     unfolding YieldsRun
-    gathered Want i s (Ok v) same source all none =
+    gathered Lack i s (Ok v) same source all none =
         let (xs, items, (t, u, on, end)) = to-end s all.0 all.1 v same all.2 all.4 in
         let whole = items ∙ ap (λ l. l ++ xs) all.3.0 in
         (t, u, subst (λ j. ReadsTo steps (λ a x. P a (Ok x)) j (vec_items v) t) source (subst (λ l. ReadsTo steps (λ a x. P a (Ok x)) (map_source s) l t) (sym whole) on), end)
-    gathered Want i s (Err e) same source none bad =
+    gathered Lack i s (Err e) same source none bad =
         ⊎_elim
-        (λ want. inl want)
+        (λ lack. inl lack)
         (λ run.
         let (p, from, (n, long, at, before)) = run in
         let (xs, t, a, u, on, last, why) = to-error p.from p.gave.0.0 p.items n e (ap map_callee from ∙ same) p.gave.0.1
