@@ -1,41 +1,41 @@
 -- The heading, part by part. Assumes nothing.
-use Rattle.std.proofs.Common.{◌≡◌, ℕ, true, List, Ok, Err, Result, refl, inl, inr, ⊎_elim}
+use Rattle.std.proofs.Common.{◌≡◌, ℕ, true, false, Bor, List, Option, Some, None, Ok, Err, Result, is_some, refl, inl, inr, ⊎_elim}
+use Rattle.std.proofs.lemmas.Bool.{both_ways}
 use Rattle.hashing.specs.Named.{spelling}
 use Rattle.hashing.specs.declared.named.HasherName.{HasherName}
 use Rattle.hashing.specs.declared.named.HasherName.TheVariants.{Rotating}
-use Rattle.tables.specs.Pieces.{Blanks, First}
+use Rattle.tables.specs.Pieces.{Blanks}
 use Rattle.tables.proofs.Sole.{no-piece}
 use Rattle.scripts.specs.Headings.{label_word, LabelTo, KindTo, LabelledTo, HasherNamed, HasherAs, AfterUnits, AfterSlots, AfterKind, HeadingAs}
-use Rattle.scripts.specs.Parts.{WordTo}
+use Rattle.scripts.specs.Parts.{PieceAs, WordTo}
 use Rattle.scripts.specs.Readings.{Sole, NoneIs, Reads}
 use Rattle.scripts.specs.declared.fault.ScriptFault.{ScriptFault}
 use Rattle.scripts.specs.declared.heading.Heading.{Heading}
 use Rattle.scripts.specs.declared.heading.Kind.{Kind}
 use Rattle.scripts.specs.declared.label.Label.TheVariants as labels
-use Rattle.scripts.proofs.Soles.{passed, then-sole, first-none, then-none, end-sole, end_none, same-sole}
+use Rattle.scripts.proofs.Soles.{passed, then-sole, first-none, then-none, end_sole, end_none, same-sole}
 
 -- what follows the name of a hasher
 abbrev Ends : HasherName × List ℕ → HasherName → Type 0
 Ends q h = (h ≡ q.0) × Blanks true q.1
 
 pub named-sole : (bs rest : List ℕ) (h : HasherName) → Sole (WordTo spelling bs) (h, rest) → Blanks true rest → Sole (HasherNamed bs) h
-named-sole bs rest h one all = then-sole (WordTo spelling bs) Ends (h, rest) h one (end-sole h (Blanks true rest) all)
-
-pub named-missing : (bs : List ℕ) → NoneIs (WordTo spelling bs) → NoneIs (HasherNamed bs)
-named-missing bs none = first-none (WordTo spelling bs) Ends none
+named-sole bs rest h one all = then-sole (WordTo spelling bs) Ends (h, rest) h one (end_sole h (Blanks true rest) all)
 
 pub named_more : (bs rest : List ℕ) (h : HasherName) → Sole (WordTo spelling bs) (h, rest) → NoneIs (λ (_ : Unit {0}). Blanks true rest) → NoneIs (HasherNamed bs)
 named_more bs rest h one none = then-none (WordTo spelling bs) Ends (h, rest) one (end_none h (Blanks true rest) none)
 
 -- a hasher that is left out, or named
-pub hasher-none : (bs : List ℕ) → Blanks true bs → Sole (HasherAs bs) Rotating
-hasher-none bs all = record {
+pub hasher-none : (bs : List ℕ) (o : Option (Bor (List ℕ) × Bor (List ℕ))) → PieceAs bs o → is_some o ≡ false → Sole (HasherAs bs) Rotating
+hasher-none bs None all e = record {
   holds = inl (refl, all);
   only = λ h s. ⊎_elim (λ e. e.0) (λ said. absurd (no-piece bs (label_word labels.Hasher) said.0 all said.1)) s;
 }
+hasher-none bs (Some q) first e = absurd (both_ways true e refl)
 
-pub hasher-unlabelled : (bs p rest : List ℕ) → First bs p rest → NoneIs (LabelTo labels.Hasher bs) → NoneIs (HasherAs bs)
-hasher-unlabelled bs p rest first none = λ h s. ⊎_elim (λ e. no-piece bs p rest e.1 first) (λ said. none said.0 said.1) s
+pub hasher-unlabelled : (bs : List ℕ) (o : Option (Bor (List ℕ) × Bor (List ℕ))) → PieceAs bs o → is_some o ≡ true → NoneIs (LabelTo labels.Hasher bs) → NoneIs (HasherAs bs)
+hasher-unlabelled bs None all e none = absurd (both_ways false refl e)
+hasher-unlabelled bs (Some q) first e none = λ h s. ⊎_elim (λ end. no-piece bs q.0.now q.1.now end.1 first) (λ said. none said.0 said.1) s
 
 hasher-said : (bs mid : List ℕ) (h : HasherName) → Sole (LabelTo labels.Hasher bs) mid → Sole (HasherNamed mid) h → Sole (HasherAs bs) h
 hasher-said bs mid h one two =

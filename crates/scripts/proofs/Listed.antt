@@ -1,13 +1,17 @@
--- The units of a line, one more of them. Assumes nothing.
-use Rattle.std.proofs.Common.{◌≡◌, ℕ, ◌^◌, ◌<◌, ◌≤◌, true, List, [], ◌∷◌, ◌++◌, length, get_or, sym, refl, ap, ◌∙◌, subst, ⊎_elim, append_assoc, append-nil, arith, length-append}
-use Rattle.std.proofs.lemmas.List.{get_or_append_left, get_or_push, get_or_at, length_push}
-use Rattle.std.proofs.lemmas.Bool.{cases_lt}
+-- The units of a line. Assumes nothing.
+use Rattle.std.proofs.Common.{◌≡◌, ℕ, zero, suc, ◌<◌, ◌≤◌, true, Bor, List, [], ◌∷◌, length, get_or, Ok, Err, Result, Vec, vec_items, sym, refl, subst, inl, ⊎_elim, arith}
+use Rattle.std.specs.declared.alloc.AllocError.{AllocError}
 use Rattle.tables.specs.Numerals.{Writes}
-use Rattle.tables.specs.Pieces.{Blanks, First, Run}
+use Rattle.tables.specs.Pieces.{Blanks, First, Run, left}
+use Rattle.tables.specs.declared.pieces.Pieces.{Pieces}
+use Rattle.tables.proofs.Gathered.{Gathered, GivesPiece, ReadsTo}
 use Rattle.tables.proofs.Numbers.{writes_one}
 use Rattle.tables.proofs.Sole.{first-same, no-piece}
 use Rattle.scripts.specs.Parts.{UnitAt, Units}
-use Rattle.scripts.specs.Readings.{Sole, NoneIs}
+use Rattle.scripts.specs.Readings.{NoneIs, Reads}
+use Rattle.scripts.proofs.Soles.{passed}
+use Rattle.scripts.specs.declared.fault.ScriptFault.{ScriptFault}
+use Rattle.scripts.specs.declared.fault.ScriptFault.TheVariants.{Memory}
 
 run-same : (bs us vs : List ℕ) → Run bs us → Run bs vs → us ≡ vs
 run-same bs [] [] r s = refl
@@ -19,60 +23,45 @@ run-same bs (u ∷ us) (v ∷ vs) r s =
     let tails = run-same s.1 us vs (subst (λ l. Run l us) same.1 r.5) s.5 in
     (λ i. heads i ∷ tails i)
 
--- the units ws of text are read, and rest is left
-pub record Sofar (limit : ℕ) (text ws rest : List ℕ) : Type 0 where
-  pub goes_on : (vs : List ℕ) → Run rest vs → Run text (ws ++ vs)
-  pub back : (us : List ℕ) → Run text us → (vs : List ℕ) × (us ≡ ws ++ vs) × Run rest vs
-  pub under : (i : ℕ) → i < length ws → get_or ws i 0 ≤ limit
+module _ (limit n : ℕ) where
+  abbrev pub IsUnit : Bor (List ℕ) → Result ℕ ScriptFault → Type 0
+  IsUnit p = Reads n (λ k. k) (UnitAt limit p.now)
 
-pub none_yet : (limit : ℕ) (text : List ℕ) → Sofar limit text [] text
-none_yet limit text = record {
-  goes_on = λ vs r. r;
-  back = λ us r. (us, refl, r);
-  under = λ i l. absurd (omega arith);
-}
+  under-cons : (u : ℕ) (us : List ℕ) → u ≤ limit → ((i : ℕ) → i < length us → get_or us i 0 ≤ limit) → (i : ℕ) → i < length (u ∷ us) → get_or (u ∷ us) i 0 ≤ limit
+  under-cons u us low rest zero l = low
+  under-cons u us low rest (suc i) l = rest i (omega arith)
 
-pub all_read : (limit : ℕ) (text ws rest : List ℕ) → Sofar limit text ws rest → Blanks true rest → Sole (Units limit text) ws
-all_read limit text ws rest old all =
-    let run = subst (Run text) (append-nil ws) (old.goes_on [] all) in
-    record {
-      holds = record { run = run; under = old.under };
-      only = λ us h. run-same text us ws h.run run;
-    }
+  -- pieces that are all read are a run of units
+  all-units : (s t : Pieces) (us : List ℕ) → ReadsTo GivesPiece (λ p k. IsUnit p (Ok k)) s us t → Blanks true (left t) → Units limit (left s) us
+  all-units s t [] h end = record { run = subst (λ u. Blanks true (left u)) (sym h) end; under = λ i l. absurd (omega arith) }
+  all-units s t (u ∷ us) h end =
+      let (p, j, first, one, on) = h in
+      let rest = all-units j t us on end in
+      record {
+        run = (p.now, left j, first, one.holds.0, one.holds.1, rest.run);
+        under = under-cons u us one.holds.2 rest.under;
+      }
 
-module _ (limit : ℕ) (text ws rest p after : List ℕ) (old : Sofar limit text ws rest) (first : First rest p after) where
-  -- the run that is left begins with what p writes
-  next-unit : (vs : List ℕ) → Run rest vs → (v : ℕ) × (more : List ℕ) × (vs ≡ v ∷ more) × Writes p v × (v < 2 ^ 32) × Run after more
-  next-unit [] r = absurd (no-piece rest p after r first)
-  next-unit (v ∷ more) r =
-      let same = first-same rest r.0 r.1 p after r.2 first in
-      (v, more, refl, subst (λ q. Writes q v) same.0 r.3, r.4, subst (λ l. Run l more) same.1 r.5)
+  -- a piece that writes no unit stands in no run of units
+  no-units : (s t : Pieces) (us p rest : List ℕ) → ReadsTo GivesPiece (λ q k. IsUnit q (Ok k)) s us t → First (left t) p rest → NoneIs (UnitAt limit p) → NoneIs (Units limit (left s))
+  no-units s t [] p rest to last none [] h = no-piece (left t) p rest (subst (λ u. Blanks true (left u)) to h.run) last
+  no-units s t [] p rest to last none (v ∷ vs) h =
+      let (q, more, first, writes, fits, on) = h.run in
+      let same = first-same (left t) q more p rest (subst (λ u. First (left u) q more) to first) last in
+      none v (subst (λ l. Writes l v) same.0 writes, fits, h.under 0 (omega arith))
+  no-units s t (u ∷ us) p rest to last none [] h = no-piece (left s) to.0.now (left to.1) h.run to.2
+  no-units s t (u ∷ us) p rest to last none (v ∷ vs) h =
+      let (q, more, first, writes, fits, on) = h.run in
+      no-units to.1 t us p rest to.4 last none vs (record {
+        run = subst (λ l. Run l vs) (first-same (left s) q more to.0.now (left to.1) first to.2).1 on;
+        under = λ i l. h.under (suc i) (omega arith);
+      })
 
-  under_more : (k : ℕ) → k ≤ limit → (i : ℕ) → i < length (ws ++ (k ∷ [])) → get_or (ws ++ (k ∷ [])) i 0 ≤ limit
-  under_more k low i l =
+  pub units-read : {Z : Type 0} (s : Pieces) (r : Result (Vec ℕ Z) ScriptFault) → Gathered GivesPiece IsUnit (λ f. AllocError × (f ≡ Memory)) s r → Reads n vec_items (Units limit (left s)) r
+  units-read s (Ok v) h =
+      let all = all-units s h.0 (vec_items v) h.2 h.3.0 in
+      record { holds = all; only = λ us g. run-same (left s) us (vec_items v) g.run all.run }
+  units-read s (Err f) h =
       ⊎_elim
-      (λ inside. subst (λ n. n ≤ limit) (sym (get_or_append_left ws (k ∷ []) 0 i inside)) (old.under i inside))
-      (λ at.
-      let end : length ws ≡ i = omega (arith, length_push ws k) in
-      subst (λ n. n ≤ limit) (sym (get_or_push ws k 0 i end)) low)
-      (cases_lt i (length ws))
-
-  pub one_more : (k : ℕ) → UnitAt limit p k → Sofar limit text (ws ++ (k ∷ [])) after
-  one_more k h = record {
-    goes_on = λ vs r. subst (Run text) (sym (append_assoc ws (k ∷ []) vs)) (old.goes_on (k ∷ vs) (p, after, first, h.0, h.1, r));
-    back = λ us r.
-        let t = old.back us r in
-        let u = next-unit t.0 t.2 in
-        let same = writes_one p u.0 k u.3 h.0 in
-        (u.1, t.1 ∙ ap (λ l. ws ++ l) u.2 ∙ ap (λ n. ws ++ (n ∷ u.1)) same ∙ sym (append_assoc ws (k ∷ []) u.1), u.5);
-    under = under_more k h.2;
-  }
-
-  pub stops-here : NoneIs (UnitAt limit p) → NoneIs (Units limit text)
-  stops-here none = λ us h.
-      let t = old.back us h.run in
-      let u = next-unit t.0 t.2 in
-      let whole : us ≡ ws ++ (u.0 ∷ u.1) = t.1 ∙ ap (λ l. ws ++ l) u.2 in
-      let at : get_or us (length ws) 0 ≡ u.0 = ap (λ l. get_or l (length ws) 0) whole ∙ get_or_at ws u.0 u.1 0 (length ws) refl in
-      let within : length ws < length us = omega (arith, ap length whole ∙ length-append ws (u.0 ∷ u.1)) in
-      none u.0 (u.3, u.4, subst (λ n. n ≤ limit) at (h.under (length ws) within))
+      (λ lack. inl lack.1)
+      (λ bad. let (us, t, p, u, on, last, why) = bad in passed (UnitAt limit p.now) (Units limit (left s)) n f (no-units s t us p.now (left u) on last) why) h

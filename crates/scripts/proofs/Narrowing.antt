@@ -2,9 +2,8 @@
 use Rattle.std.proofs.Common.{◌≡◌, ℕ, zero, suc, ◌<◌, List, [], ◌∷◌, length, get_or, sym, ap, subst, ⊎_elim, arith}
 use lib.ListN.{length-map}
 use Rattle.std.proofs.lemmas.List.{get_or-map}
-use Rattle.std.proofs.lemmas.Bool.{cases_Bool}
+use Rattle.std.proofs.lemmas.Bool.{MatchBool-at_true, MatchBool-at_false, cases_Bool}
 use Rattle.tables.specs.Lines.{content, skipped}
-use Rattle.tables.proofs.Sole.{at_true, at-false}
 use Rattle.scripts.specs.Calls.{Told, told, told_all, AfterVerb, CallAs, Under, AllUnder}
 use Rattle.scripts.specs.Headings.{HeadingAs}
 use Rattle.scripts.specs.Scripts.{limit_of, Whole, CallsIn, ScriptIn}
@@ -35,9 +34,9 @@ calls-under limit [] ts e = λ i d l. absurd (omega (arith, ap length e))
 calls-under limit (l ∷ ls) ts x =
     let Here : Type 0 = (t : Told) × (more : List Told) × (ts ≡ t ∷ more) × CallAs limit (content l) t × CallsIn limit ls more in
     ⊎_elim
-    (λ skip. calls-under limit ls ts (at_true (skipped (content l)) (CallsIn limit ls ts) Here skip x))
+    (λ skip. calls-under limit ls ts (MatchBool-at_true (CallsIn limit ls ts) Here skip x))
     (λ plain.
-    let here = at-false (skipped (content l)) (CallsIn limit ls ts) Here plain x in
+    let here = MatchBool-at_false (CallsIn limit ls ts) Here plain x in
     let q = here.3.0 in
     subst (Each limit) (sym here.2) (each-cons limit here.0 here.1 (after-under limit q.0 q.1 here.0 here.3.2) (calls-under limit ls here.1 here.4)))
     (cases_Bool (skipped (content l)))
@@ -47,8 +46,8 @@ script-under [] s x = absurd x
 script-under (l ∷ ls) s x =
     let Here : Type 0 = HeadingAs (content l) s.0 × CallsIn (limit_of s.0.0) ls s.1 in
     ⊎_elim
-    (λ skip. script-under ls s (at_true (skipped (content l)) (ScriptIn ls s) Here skip x))
-    (λ plain. calls-under (limit_of s.0.0) ls s.1 (at-false (skipped (content l)) (ScriptIn ls s) Here plain x).1)
+    (λ skip. script-under ls s (MatchBool-at_true (ScriptIn ls s) Here skip x))
+    (λ plain. calls-under (limit_of s.0.0) ls s.1 (MatchBool-at_false (ScriptIn ls s) Here plain x).1)
     (cases_Bool (skipped (content l)))
 
 pub narrow-enough : (ls : List (List ℕ)) (s : Whole) (kind : Kind) (cs bs : List (Call ℕ)) → ScriptIn ls s → s.1 ≡ told_all cs → s.0.0 ≡ kind → bs ≡ cs → AllUnder (limit_of kind) bs

@@ -1,5 +1,5 @@
 -- The number that the next piece of a line writes. Assumes nothing.
-use Rattle.std.proofs.Common.{ℕ, ◌^◌, ◌<◌, ◌≤◌, true, ◌⊎◌, List, [], ◌∷◌, Err, ap, subst, inl, inr, arith}
+use Rattle.std.proofs.Common.{ℕ, ◌<◌, true, ◌⊎◌, List, [], ◌∷◌, Err, ap, subst, inl, inr, arith}
 use Rattle.tables.specs.declared.word.WordFault.{WordFault}
 use Rattle.tables.specs.declared.word.WordFault.TheVariants.{NotANumber, TooLarge}
 use Rattle.tables.specs.Numerals.{Writes, NoNumber, WideNumber, ReadAs}
@@ -45,13 +45,7 @@ alone-more bs rest k one none = λ n h.
     let same = one.only (n, h.1) (h.0, h.2, h.3, h.4) in
     none tt (subst (Blanks true) (ap (λ q. q.1) same) h.5)
 
--- the unit that a piece writes
-pub unit-sole : (limit : ℕ) (p : List ℕ) (k : ℕ) → Writes p k → k < 2 ^ 32 → k ≤ limit → Sole (UnitAt limit p) k
-unit-sole limit p k writes fits under = record {
-  holds = (writes, fits, under);
-  only = λ n h. writes_one p n k h.0 writes;
-}
-
+-- a piece that writes no unit
 pub unit-bad : (limit : ℕ) (p : List ℕ) (w : WordFault) → ReadAs p (Err w) → NoneIs (UnitAt limit p)
 unit-bad limit p w bad = λ k h. no_word p k h.0 h.1 (bad-word p w bad)
 

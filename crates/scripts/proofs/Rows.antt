@@ -1,10 +1,10 @@
 -- The lines of a script, one more of them. Assumes nothing.
-use Rattle.std.proofs.Common.{◌≡◌, ℕ, ◌+◌, ◌<◌, true, false, ◌⊎◌, List, [], ◌∷◌, ◌++◌, length, get_or, take, IsErrAnd, Some, None, Ok, Err, Option, Result, sym, refl, ap, ◌∙◌, subst, inl, inr, ⊎_elim, append_assoc, append-nil, arith}
-use Rattle.std.proofs.lemmas.List.{length_push, take_more}
+use Rattle.std.proofs.Common.{◌≡◌, ℕ, ◌+◌, true, false, ◌⊎◌, List, [], ◌∷◌, ◌++◌, length, IsErrAnd, Some, None, Ok, Err, Option, Result, sym, refl, ap, ◌∙◌, subst, inl, inr, ⊎_elim, append_assoc, arith}
+use Rattle.std.proofs.lemmas.Bool.{MatchBool-at_true, MatchBool-at_false}
+use Rattle.std.proofs.lemmas.List.{map_push, length_push}
 use Rattle.tables.specs.Lines.{content, skipped}
 use Rattle.tables.specs.Rules.{lines}
 use Rattle.tables.proofs.Reading.{when_true, when_false}
-use Rattle.tables.proofs.Sole.{at_true, at-false}
 use Rattle.scripts.specs.Calls.{Told, told, told_all, CallAs}
 use Rattle.scripts.specs.Headings.{HeadingAs}
 use Rattle.scripts.specs.Readings.{line_of, Sole, NoneIs}
@@ -15,20 +15,8 @@ use Rattle.scripts.specs.declared.fault.ScriptFault.TheVariants.{Memory}
 use Rattle.scripts.specs.declared.heading.Heading.{Heading}
 use Rattle.scripts.specs.declared.heading.Kind.{Kind}
 
-told-append : (xs ys : List (Call ℕ)) → told_all (xs ++ ys) ≡ told_all xs ++ told_all ys
-told-append [] ys = refl
-told-append (x ∷ xs) ys = ap (λ l. told x ∷ l) (told-append xs ys)
-
 pub told_push : (ms ns : List (Call ℕ)) (x : Call ℕ) → ms ≡ ns ++ (x ∷ []) → told_all ms ≡ told_all ns ++ (told x ∷ [])
-told_push ms ns x e = ap told_all e ∙ told-append ns (x ∷ [])
-
--- one call more is copied
-pub told_more : (xs ms ns : List (Call ℕ)) (i : ℕ) (x y : Call ℕ) → i < length xs → ms ≡ ns ++ (x ∷ []) → told_all ns ≡ told_all (take i xs) → told x ≡ told y → y ≡ get_or xs i y → told_all ms ≡ told_all (take (i + 1) xs)
-told_more xs ms ns i x y within pushed inv same is =
-    ap told_all pushed ∙ told-append ns (x ∷ [])
-    ∙ (λ j. inv j ++ (same j ∷ []))
-    ∙ ap (λ c. told_all (take i xs) ++ (told c ∷ [])) is
-    ∙ sym (told-append (take i xs) (get_or xs i y ∷ [])) ∙ ap told_all (sym (take_more xs i y within))
+told_push ms ns x e = ap told_all e ∙ map_push told ns x
 
 -- what the lines that are left have to be, given the heading and the calls so far
 abbrev pub Left : Option (Kind × Heading) → List Told → List (List ℕ) → Whole → Type 0
@@ -48,16 +36,6 @@ pub record Sofar (text : List ℕ) (left : List (List ℕ)) (line : ℕ) (h : Op
   pub on : (more : List (List ℕ)) (s : Whole) → Left h ts more s → ScriptIn (done ++ more) s
   pub back : (more : List (List ℕ)) (s : Whole) → ScriptIn (done ++ more) s → Left h ts more s
 
-pub none_yet : (text : List ℕ) (ts : List Told) → ts ≡ [] → Sofar text (lines text) 0 None ts
-none_yet text ts e = record {
-  done = [];
-  whole = refl;
-  count = refl;
-  fresh = e;
-  on = λ more s x. x;
-  back = λ more s x. x;
-}
-
 -- the first line that counts, and a line after it
 abbrev Head : List ℕ → List (List ℕ) → Whole → Type 0
 Head l ls s = HeadingAs (content l) s.0 × CallsIn (limit_of s.0.0) ls s.1
@@ -72,9 +50,9 @@ skip-on (Some v) ts l ls s e x =
     (x.0, (x.1.0, x.1.1, when_true (skipped (content l)) (CallsIn (limit_of v.0) ls x.1.0) (Next (limit_of v.0) l ls x.1.0) e x.1.2))
 
 skip-back : (h : Option (Kind × Heading)) (ts : List Told) (l : List ℕ) (ls : List (List ℕ)) (s : Whole) → skipped (content l) ≡ true → Left h ts (l ∷ ls) s → Left h ts ls s
-skip-back None ts l ls s e x = at_true (skipped (content l)) (ScriptIn ls s) (Head l ls s) e x
+skip-back None ts l ls s e x = MatchBool-at_true (ScriptIn ls s) (Head l ls s) e x
 skip-back (Some v) ts l ls s e x =
-    (x.0, (x.1.0, x.1.1, at_true (skipped (content l)) (CallsIn (limit_of v.0) ls x.1.0) (Next (limit_of v.0) l ls x.1.0) e x.1.2))
+    (x.0, (x.1.0, x.1.1, MatchBool-at_true (CallsIn (limit_of v.0) ls x.1.0) (Next (limit_of v.0) l ls x.1.0) e x.1.2))
 
 -- a heading
 head-on : (v : Kind × Heading) (ts : List Told) (l : List ℕ) (ls : List (List ℕ)) (s : Whole) → skipped (content l) ≡ false → ts ≡ [] → HeadingAs (content l) v → Left (Some v) ts ls s → ScriptIn (l ∷ ls) s
@@ -86,7 +64,7 @@ head-on v ts l ls s plain none head x =
 
 head-back : (v : Kind × Heading) (ts : List Told) (l : List ℕ) (ls : List (List ℕ)) (s : Whole) → skipped (content l) ≡ false → ts ≡ [] → Sole (HeadingAs (content l)) v → ScriptIn (l ∷ ls) s → Left (Some v) ts ls s
 head-back v ts l ls s plain none one x =
-    let here = at-false (skipped (content l)) (ScriptIn ls s) (Head l ls s) plain x in
+    let here = MatchBool-at_false (ScriptIn ls s) (Head l ls s) plain x in
     let same = one.only s.0 here.0 in
     (same, (s.1, sym (ap (λ xs. xs ++ s.1) none), subst (λ w. CallsIn (limit_of w.0) ls s.1) same here.1))
 
@@ -96,7 +74,7 @@ call-on v ts t l ls s plain call x =
     (x.0, (t ∷ x.1.0, x.1.1 ∙ append_assoc ts (t ∷ []) x.1.0, when_false (skipped (content l)) (CallsIn (limit_of v.0) ls (t ∷ x.1.0)) (Next (limit_of v.0) l ls (t ∷ x.1.0)) plain (t, x.1.0, refl, call, x.1.2)))
 
 call-here : (v : Kind × Heading) (ts : List Told) (l : List ℕ) (ls : List (List ℕ)) (s : Whole) → skipped (content l) ≡ false → (x : Left (Some v) ts (l ∷ ls) s) → Next (limit_of v.0) l ls x.1.0
-call-here v ts l ls s plain x = at-false (skipped (content l)) (CallsIn (limit_of v.0) ls x.1.0) (Next (limit_of v.0) l ls x.1.0) plain x.1.2
+call-here v ts l ls s plain x = MatchBool-at_false (CallsIn (limit_of v.0) ls x.1.0) (Next (limit_of v.0) l ls x.1.0) plain x.1.2
 
 call_back : (v : Kind × Heading) (ts : List Told) (t : Told) (l : List ℕ) (ls : List (List ℕ)) (s : Whole) → skipped (content l) ≡ false → Sole (CallAs (limit_of v.0) (content l)) t → Left (Some v) ts (l ∷ ls) s → Left (Some v) (ts ++ (t ∷ [])) ls s
 call_back v ts t l ls s plain one x =
@@ -144,7 +122,7 @@ module _ (text l : List ℕ) (left : List (List ℕ)) (line : ℕ) (ts : List To
   pub heading-stops : (f : ScriptFault) → (f ≡ Memory) ⊎ ((line_of f ≡ Some (line + 1)) × NoneIs (HeadingAs (content l))) → FaultOf (lines text) f
   heading-stops f bad =
       line-stops text l left line None ts old (HeadingAs (content l)) f
-      (λ none more s x. none s.0 (at-false (skipped (content l)) (ScriptIn more s) (Head l more s) plain x).0) bad
+      (λ none more s x. none s.0 (MatchBool-at_false (ScriptIn more s) (Head l more s) plain x).0) bad
 
 module _ (text l : List ℕ) (left : List (List ℕ)) (line : ℕ) (v : Kind × Heading) (ts : List Told) (old : Sofar text (l ∷ left) line (Some v) ts) (plain : skipped (content l) ≡ false) where
   pub call_line : (t : Told) → Sole (CallAs (limit_of v.0) (content l)) t → Sofar text left (line + 1) (Some v) (ts ++ (t ∷ []))
@@ -156,20 +134,6 @@ module _ (text l : List ℕ) (left : List (List ℕ)) (line : ℕ) (v : Kind × 
   call-stops f bad =
       line-stops text l left line (Some v) ts old (CallAs (limit_of v.0) (content l)) f
       (λ none more s x. let here = call-here v ts l more s plain x in none here.0 here.3) bad
-
-pub all_read : (text : List ℕ) (line : ℕ) (v : Kind × Heading) (ts : List Told) → Sofar text [] line (Some v) ts → Sole (ScriptIn (lines text)) (v, ts)
-all_read text line v ts old =
-    let same : lines text ≡ old.done ++ [] = old.whole in
-    record {
-      holds = subst (λ ls. ScriptIn ls (v, ts)) (sym same) (old.on [] (v, ts) (refl, ([], sym (append-nil ts), refl)));
-      only = λ s x.
-          let t = old.back [] s (subst (λ ls. ScriptIn ls s) same x) in
-          let calls : s.1 ≡ ts = t.1.1 ∙ ap (λ us. ts ++ us) t.1.2 ∙ append-nil ts in
-          (λ i. (t.0 i, calls i));
-    }
-
-pub none_read : (text : List ℕ) (line : ℕ) (ts : List Told) → Sofar text [] line None ts → NoneIs (ScriptIn (lines text))
-none_read text line ts old = λ s x. old.back [] s (subst (λ ls. ScriptIn ls s) old.whole x)
 
 -- one call more, as the list of calls has it
 pub again-told : (text l : List ℕ) (left : List (List ℕ)) (line : ℕ) (h : Option (Kind × Heading)) (v : Kind × Heading) (ns ms : List (Call ℕ)) → Sofar text (l ∷ left) line (Some v) (told_all ns) → skipped (content l) ≡ false → (x : Call ℕ) → Sole (CallAs (limit_of v.0) (content l)) (told x) → h ≡ Some v → ms ≡ ns ++ (x ∷ []) → Sofar text left (line + 1) h (told_all ms)

@@ -3,11 +3,11 @@ ghost use Rattle.scripts.specs.Calls.{AfterVerb, CallAs, told};
 ghost use Rattle.scripts.specs.Readings.{Reads};
 
 use crate::fault::ScriptFault;
-use crate::line::Line;
 use crate::named::read_named;
 use crate::pieces::{read_end, read_sole_number};
 use crate::units::read_units;
 use crate::verb::Verb;
+use tables::line::Line;
 
 #[derive(Debug, Drop)]
 pub enum Call<U> {
@@ -33,15 +33,12 @@ fn after_verb(line: Line, verb: Verb, rest: &str, limit: u32) -> Result<Call<u32
     ensures { Reads line.number told (AfterVerb limit verb rest.now) result }
 {
     match verb {
-        Verb::Enter => Ok(Call::Enter(read_units(line, rest, limit)?)),
-        Verb::Find => Ok(Call::Find(read_units(line, rest, limit)?)),
-        Verb::Cut => Ok(Call::Cut(read_sole_number(line, rest)?)),
-        Verb::Count => {
-            read_end(line, rest)?;
-            Ok(Call::Count)
-        }
-        Verb::Class => Ok(Call::Class(read_sole_number(line, rest)?)),
-        Verb::Hash => Ok(Call::Hash(read_sole_number(line, rest)?)),
-        Verb::Run => Ok(Call::Run(read_sole_number(line, rest)?)),
+        Verb::Enter => read_units(line, rest, limit).map(Call::Enter),
+        Verb::Find => read_units(line, rest, limit).map(Call::Find),
+        Verb::Cut => read_sole_number(line, rest).map(Call::Cut),
+        Verb::Count => read_end(line, rest).map(|()| Call::Count),
+        Verb::Class => read_sole_number(line, rest).map(Call::Class),
+        Verb::Hash => read_sole_number(line, rest).map(Call::Hash),
+        Verb::Run => read_sole_number(line, rest).map(Call::Run),
     }
 }

@@ -1,12 +1,13 @@
 // What is wrong with the text of a script, and at which line.
-ghost use Rattle.std.specs.Prelude.{◌≡◌};
-ghost use Rattle.scripts.specs.Readings.{line_of};
+ghost use Rattle.std.specs.Prelude.{◌≡◌, Some};
+ghost use Rattle.scripts.specs.Readings.{Faulted, line_of};
 ghost use Rattle.scripts.specs.declared.fault.ScriptFault.TheVariants.{Memory, NotUtf8};
 
 use std::alloc::{AllocError, AllocFailed};
 use std::error::Error;
 use std::fmt;
-use tables::fault::BadUtf8;
+use tables::fault::{BadUtf8, shown};
+use tables::line::Line;
 
 // What the text should have had in place of what was found.
 #[derive(Clone, Copy, Debug, PartialEq, Eq)]
@@ -68,6 +69,31 @@ impl<T: Drop> From<AllocFailed<T>> for ScriptFault {
 }
 
 impl ScriptFault {
+    // A line has this text in place of what was expected.
+    pub(crate) fn found(line: Line, expected: Expected, text: &str) -> ScriptFault
+        ensures { Faulted line.number result }
+    {
+        shown(line.heap, text).map_or(
+            ScriptFault::Memory,
+            |found| ScriptFault::Unexpected {
+                line: line.number,
+                expected,
+                found: Some(found),
+            },
+        )
+    }
+
+    // A line ends before what was expected.
+    pub(crate) fn missing(line: Line, expected: Expected) -> ScriptFault
+        ensures { line_of result ≡ Some line.number }
+    {
+        ScriptFault::Unexpected {
+            line: line.number,
+            expected,
+            found: None,
+        }
+    }
+
     // The line that the fault stands at, counted from 1.
     pub fn line(&self) -> Option<usize>
         ensures { result ≡ line_of self.now }

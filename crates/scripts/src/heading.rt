@@ -9,11 +9,11 @@ ghost use Rattle.scripts.specs.Spellings.{hasher-same, kind-same};
 
 use crate::fault::{Expected, ScriptFault, UnknownWord};
 use crate::label::{Label, read_label, read_labelled};
-use crate::line::Line;
 use crate::named::{Named, read_named};
 use crate::pieces::{next_piece, read_end};
 use hashing::named::HasherName;
 use std::str::FromStr;
+use tables::line::Line;
 
 // What the entries are.
 #[derive(Clone, Copy, Debug, PartialEq, Eq)]
@@ -29,7 +29,7 @@ impl Kind {
     {
         match self {
             Kind::Rules => u32::MAX,
-            Kind::Names => 255,
+            Kind::Names => u32::from(u8::MAX),
         }
     }
 }
@@ -40,6 +40,7 @@ impl FromStr for Kind {
     ghost from_str_gives = { WordAs kind_word };
 
     fn from_str(text: &str) -> Result<Kind, UnknownWord> {
+        // Kept: a search of a list of both by their words takes the same arms, turned round, and the list beside.
         match text {
             "rules" => Ok(Kind::Rules),
             "names" => Ok(Kind::Names),
@@ -110,9 +111,9 @@ fn read_kind(line: Line, text: &str) -> Result<(Kind, &str), ScriptFault>
 fn read_hasher(line: Line, text: &str) -> Result<HasherName, ScriptFault>
     ensures { Reads line.number (λ x. x) (HasherAs text.now) result }
 {
-    let Some(_) = next_piece(text) else {
+    if next_piece(text).is_none() {
         return Ok(HasherName::Rotating);
-    };
+    }
     let rest = read_label(line, text, Label::Hasher)?;
     read_hasher_name(line, rest)
 }

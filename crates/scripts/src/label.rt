@@ -4,8 +4,8 @@ ghost use Rattle.scripts.specs.Headings.{LabelTo, LabelledTo, label_word};
 ghost use Rattle.scripts.specs.Readings.{Reads};
 
 use crate::fault::{Expected, ScriptFault};
-use crate::line::Line;
-use crate::pieces::read_number;
+use crate::pieces::{read_number, read_piece};
+use tables::line::Line;
 
 #[derive(Clone, Copy, Debug, PartialEq, Eq)]
 pub(crate) enum Label {
@@ -16,7 +16,7 @@ pub(crate) enum Label {
 }
 
 impl Label {
-    // Kept: it is compared with a piece of text, and not printed.
+    // Kept: no `Display`, since it is compared with a piece of text and not printed.
     fn word(self) -> &'static str
         ensures { result.now ≡ label_word self }
     {
@@ -45,11 +45,11 @@ impl From<Label> for Expected {
 pub(crate) fn read_label(line: Line, text: &str, label: Label) -> Result<&str, ScriptFault>
     ensures { Reads line.number (λ x. x.now) (LabelTo label text.now) result }
 {
-    let (piece, rest) = line.piece(text, label.into())?;
+    let (piece, rest) = read_piece(line, text, label.into())?;
     if piece == label.word() {
         return Ok(rest);
     }
-    Err(line.found(label.into(), piece))
+    Err(ScriptFault::found(line, label.into(), piece))
 }
 
 // The number after a label, and what follows it.

@@ -6,7 +6,6 @@ pub mod call;
 pub mod fault;
 pub mod heading;
 mod label;
-pub mod line;
 mod named;
 mod narrow;
 mod pieces;

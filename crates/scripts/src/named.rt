@@ -4,8 +4,9 @@ ghost use Rattle.scripts.specs.Parts.{WordAs, WordTo};
 ghost use Rattle.scripts.specs.Readings.{Reads};
 
 use crate::fault::{Expected, ScriptFault};
-use crate::line::Line;
+use crate::pieces::read_piece;
 use std::str::FromStr;
+use tables::line::Line;
 
 // What a word can name.
 pub(crate) trait Named: FromStr {
@@ -27,9 +28,9 @@ where
     T::Err: Drop,
     ensures { Reads line.number (λ x. (x.0, x.1.now)) (WordTo T.spelling text.now) result }
 {
-    let (piece, rest) = line.piece(text, T::expected())?;
+    let (piece, rest) = read_piece(line, text, T::expected())?;
     let named = piece
         .parse::<T>()
-        .map_err(|_| line.found(T::expected(), piece))?;
+        .map_err(|_| ScriptFault::found(line, T::expected(), piece))?;
     Ok((named, rest))
 }

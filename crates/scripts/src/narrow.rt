@@ -12,12 +12,10 @@ pub(crate) fn narrow_calls(heap: Global, calls: &[Call<u32>]) -> Result<Vec<Call
     requires { AllUnder 255 calls.now }
     ensures { Kept (λ v. told_all v.items) (told_all calls.now) result }
 {
-    // Kept: with `try_collect` it stays open that an error is want of memory, which its contract says of runs alone.
-    let mut narrowed = Vec::new(heap);
-    for call in calls {
-        narrowed.push(narrow_call(heap, call)?)?;
-    }
-    Ok(narrowed)
+    calls
+        .iter()
+        .map(|call| narrow_call(heap, call))
+        .try_collect(heap)
 }
 
 // Kept: a method that changes the units of any call would name each variant too, and has this one caller.
@@ -26,8 +24,8 @@ fn narrow_call(heap: Global, call: &Call<u32>) -> Result<Call<u8>, ScriptFault>
     ensures { Kept told (told call.now) result }
 {
     match call {
-        Call::Enter(units) => Ok(Call::Enter(narrow_units(heap, units.as_slice())?)),
-        Call::Find(units) => Ok(Call::Find(narrow_units(heap, units.as_slice())?)),
+        Call::Enter(units) => narrow_units(heap, units.as_slice()).map(Call::Enter),
+        Call::Find(units) => narrow_units(heap, units.as_slice()).map(Call::Find),
         Call::Cut(k) => Ok(Call::Cut(*k)),
         Call::Count => Ok(Call::Count),
         Call::Class(k) => Ok(Call::Class(*k)),

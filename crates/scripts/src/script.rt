@@ -6,11 +6,10 @@ ghost use Rattle.scripts.specs.Scripts.{LinesAs, ScriptAs, scripted};
 use crate::call::{Call, read_call};
 use crate::fault::ScriptFault;
 use crate::heading::{Heading, Kind, read_heading};
-use crate::line::Line;
 use crate::narrow::narrow_calls;
 use std::alloc::Global;
 use tables::blanks::is_skipped;
-use tables::line::before_return;
+use tables::line::{Line, before_return};
 use tables::table::text_of;
 
 #[derive(Debug, Drop)]

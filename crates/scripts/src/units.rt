@@ -4,7 +4,7 @@ ghost use Rattle.scripts.specs.Parts.{UnitAt, Units};
 ghost use Rattle.scripts.specs.Readings.{Reads};
 
 use crate::fault::{Expected, ScriptFault};
-use crate::line::Line;
+use tables::line::Line;
 use tables::pieces::Pieces;
 use tables::word::read_word;
 
@@ -12,11 +12,9 @@ use tables::word::read_word;
 pub(crate) fn read_units(line: Line, text: &str, limit: u32) -> Result<Vec<u32>, ScriptFault>
     ensures { Reads line.number vec_items (Units limit text.now) result }
 {
-    let mut units = Vec::new(line.heap);
-    for piece in Pieces::new(text) {
-        units.push(read_unit(line, piece, limit)?)?;
-    }
-    Ok(units)
+    Pieces::new(text)
+        .map(|piece| read_unit(line, piece, limit))
+        .try_collect(line.heap)
 }
 
 // The unit that a piece writes.
@@ -25,7 +23,7 @@ fn read_unit(line: Line, piece: &str, limit: u32) -> Result<u32, ScriptFault>
 {
     match read_word(piece) {
         Ok(word) if word <= limit => Ok(word),
-        _ => Err(line.found(unit_up_to(limit), piece)),
+        _ => Err(ScriptFault::found(line, unit_up_to(limit), piece)),
     }
 }
 

@@ -24,6 +24,7 @@ impl FromStr for Verb {
     ghost from_str_gives = { WordAs verb_word };
 
     fn from_str(text: &str) -> Result<Verb, UnknownWord> {
+        // Kept: a search of a list of all seven by their words takes the same arms, turned round, and the list beside.
         match text {
             "enter" => Ok(Verb::Enter),
             "find" => Ok(Verb::Find),

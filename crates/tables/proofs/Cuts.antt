@@ -5,21 +5,24 @@ use Rattle.std.specs.Option.{unwrap_or}
 use Rattle.std.specs.Str.{NoCharPasses}
 use Rattle.std.specs.Str.Pattern.{FindsBy, FindsPrefixBy, FindsSuffixBy, CutsPrefixes, CutsSuffixes, IsTrimStartMatches, IsTrimEndMatches, MatchBeginsAt}
 use Rattle.std.proofs.Math.Utf8.{low_scalar}
-use Rattle.std.proofs.lemmas.List.{take-append-drop, get_or-take, get_or-drop, get_or_append_left, length-take-le, length-drop, drop_all, drop_more, nil_from_length}
-use Rattle.std.proofs.lemmas.Bool.{or_cases, eqb-true, cases_Bool, both_ways, cond-true, cond-false}
+use Rattle.std.proofs.lemmas.List.{take-append-drop, get_or-take, get_or-drop, get_or_append_left, get_or-append_right, length-take-le, length-drop, drop_all, drop_more, nil_from_length}
+use Rattle.std.proofs.lemmas.Bool.{false_from_ne_true, or_cases, eqb-true, cases_lt, both_ways, cond-true, cond-false}
 use Rattle.std.proofs.lemmas.Bool.Decides.{nat_tests}
 use Rattle.std.proofs.lemmas.Str.{encode_ascii, len_utf8_bounds, NoCharPasses-byte}
 use Rattle.std.proofs.lemmas.Str.Pattern.{drop_at_char}
 use Rattle.tables.specs.Lines.{skipped}
 use Rattle.tables.specs.Pieces.{blank, Blanks, Cut, Trimmed}
-use Rattle.tables.proofs.Runs.{blanks-append}
+
+pub blanks-append : (t : Bool) (xs ys : List ℕ) → Blanks t xs → Blanks t ys → Blanks t (xs ++ ys)
+blanks-append t xs ys hx hy = λ i l.
+    ⊎_elim
+    (λ in-front. ap blank (get_or_append_left xs ys 0 i in-front) ∙ hx i in-front)
+    (λ after. ap blank (get_or-append_right xs ys (length xs) i 0 refl after) ∙ hy _ (omega (arith, length-append xs ys)))
+    (cases_lt i (length xs))
 
 blank-ascii : (b : ℕ) → blank b ≡ true → b < 128
 blank-ascii b h =
     ⊎_elim (λ e. let at : b ≡ 32 = eqb-true b 32 e in omega arith) (λ e. let at : b ≡ 9 = eqb-true b 9 e in omega arith) (or_cases (eqb b 32) (eqb b 9) h)
-
-not-blank : (b : ℕ) → (blank b ≡ true → ⊥) → blank b ≡ false
-not-blank b h = ⊎_elim (λ e. absurd (h e)) (λ e. e) (cases_Bool (blank b))
 
 one_blank : (c : ℕ) → blank c ≡ true → Blanks true (c ∷ [])
 one_blank c h = λ i l. let first : 0 ≡ i = omega arith in subst (λ j. blank (get_or (c ∷ []) j 0) ≡ true) first h
@@ -91,15 +94,15 @@ trims bs gap rest name skip ((ns, cuts), (o, found, none)) =
       blanks_after = dark;
       first = λ some.
           let front : get_or rest 0 0 ≡ get_or name 0 0 = ap (λ l. get_or l 0 0) whole ∙ get_or_append_left name after 0 0 some in
-          ap blank (sym front) ∙ not-blank (get_or rest 0 0) (skip.ends (omega (arith, ap length whole ∙ length-append name after)));
-      last = λ some. not-blank (get_or name (length name - 1) 0) (no-end name o (found blank blank_set) none some);
+          ap blank (sym front) ∙ false_from_ne_true _ (skip.ends (omega (arith, ap length whole ∙ length-append name after)));
+      last = λ some. false_from_ne_true _ (no-end name o (found blank blank_set) none some);
     }
 
 -- where the first blank is, or the end
 lacks : (bs : List ℕ) → NoCharPasses blank bs → (i : ℕ) → i < length bs → blank (get_or bs i 0) ≡ false
 lacks bs h i l =
     let b = get_or bs i 0 in
-    not-blank b (λ e. both_ways (blank b) (NoCharPasses-byte blank bs i h l (blank-ascii b e)) e)
+    false_from_ne_true (blank b) (λ e. both_ways (blank b) (NoCharPasses-byte blank bs i h l (blank-ascii b e)) e)
 
 cut_at : (bs : List ℕ) (n : ℕ) (front rest : List ℕ) → n ≤ length bs → ((i : ℕ) → i < n → blank (get_or bs i 0) ≡ false) → (n < length bs → blank (get_or bs n 0) ≡ true) → front ≡ take n bs → rest ≡ drop n bs → Cut false bs front rest
 cut_at bs n front rest within alike ends f r =
@@ -133,4 +136,4 @@ skipped-nil rest none = ap skipped (nil_from_length rest none)
 
 pub skipped-first : (rest : List ℕ) → 0 < length rest → (0 < length rest → blank (get_or rest 0 0) ≡ true → ⊥) → skipped rest ≡ eqb (get_or rest 0 0) 35
 skipped-first [] some ends = absurd (omega arith)
-skipped-first (b ∷ bs) some ends = cond-false (blank b) (skipped bs) (eqb b 35) (not-blank b (ends some))
+skipped-first (b ∷ bs) some ends = cond-false (blank b) (skipped bs) (eqb b 35) (false_from_ne_true (blank b) (ends some))

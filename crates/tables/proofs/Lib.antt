@@ -2,7 +2,7 @@ pub mod Numbers
 pub mod Cuts
 pub mod Ordered
 pub mod Mapped
-pub mod Runs
+pub mod Gathered
 pub mod Endings
 pub mod Faults
 pub mod Rows

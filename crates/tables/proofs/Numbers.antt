@@ -72,8 +72,3 @@ pub decimal : (bs : List ℕ) (r : Result ℕ WordFault) → ((ds : List ℕ) �
 decimal bs (Ok n) no-prefix h = (inl (h.0, h.1), h.2)
 decimal bs (Err TooLarge) no-prefix h = (digits_value 10 bs, inl (h.0, refl), h.1)
 decimal bs (Err NotANumber) no-prefix h = λ n w. ⊎_elim (λ p. h p.0) (λ q. no-prefix q.0 q.1) w
-
-pub read_whole : (bs : List ℕ) (r : Result ℕ WordFault) → ReadAs bs r → (n : ℕ) → Writes bs n → n < 2 ^ 32 → r ≡ Ok n
-read_whole bs (Ok m) h n w l = ap Ok (writes_one bs m n h.0 w)
-read_whole bs (Err TooLarge) h n w l = absurd (omega (arith, writes_one bs h.0 n h.1 w, h.2))
-read_whole bs (Err NotANumber) h n w l = absurd (h n w)

@@ -1,5 +1,5 @@
 -- The rules of a table, one line more. Assumes nothing.
-use Rattle.std.proofs.Common.{◌≡◌, ℕ, suc, ◌+◌, ◌<◌, Bool, true, false, true≢false, cond, ◌⊎◌, List, [], ◌∷◌, ◌++◌, length, get_or, Some, None, string_bytes, MatchBool, Option, String, sym, refl, ap, ◌∙◌, subst, inl, inr, ⊎_elim, append_assoc, append-nil, arith}
+use Rattle.std.proofs.Common.{◌≡◌, ℕ, suc, ◌+◌, ◌<◌, Bool, true, false, true≢false, cond, ◌⊎◌, List, [], ◌∷◌, ◌++◌, length, get_or, Some, None, string_bytes, MatchBool, Option, String, sym, refl, ap, ◌∙◌, subst, inl, inr, ⊎_elim, append_assoc, arith}
 use Rattle.std.specs.BTreeMap.{get_by_text, is_at, IsEmpty, IsOrdered}
 use Rattle.std.specs.Cmp.Lexicographic.{slice_cmp}
 use Rattle.std.specs.Map.{lookup, update}
@@ -17,14 +17,12 @@ use Rattle.tables.specs.Rules.{lines, name_of, Holds, Apart, Stands, FaultAfter,
 use Rattle.tables.proofs.Ordered.{empty-ordered}
 use Rattle.std.specs.String.{string_cmp}
 
--- When, by cases
+-- what holds at a test that came out so
 pub when_true : (b : Bool) (P Q : Type 0) → b ≡ true → P → MatchBool b P Q
-when_true true P Q e p = p
-when_true false P Q e p = absurd (let z : ◌≡◌ {A = ℕ} 0 1 = cc in omega arith)
+when_true b P Q e p = subst (λ t. MatchBool t P Q) (sym e) p
 
 pub when_false : (b : Bool) (P Q : Type 0) → b ≡ false → Q → MatchBool b P Q
-when_false true P Q e q = absurd (let z : ◌≡◌ {A = ℕ} 0 1 = cc in omega arith)
-when_false false P Q e q = q
+when_false b P Q e q = subst (λ t. MatchBool t P Q) (sym e) q
 
 when-map : (b : Bool) (P Q P' Q' : Type 0) → (P → P') → (Q → Q') → MatchBool b P Q → MatchBool b P' Q'
 when-map true P Q P' Q' f g h = f h
@@ -155,9 +153,6 @@ module _ {Y : Type 0} where
     apart = λ i j d before within same. absurd (omega arith);
     noted = noted-none m none;
   }
-
-  pub all_read : (text : List ℕ) (line : ℕ) (es : List Entry) (m : BTreeMap (String Y) ℕ) → Sofar text [] line es m → Holds 1 (lines text) es × Apart es
-  all_read text line es m old = (subst (λ ls. Holds 1 ls es) (sym (old.whole ∙ append-nil old.done)) old.held, old.apart)
 
   module _ (text l : List ℕ) (left : List (List ℕ)) (line : ℕ) (es : List Entry) (m : BTreeMap (String Y) ℕ) (old : Sofar text (l ∷ left) line es m) where
     longer : line + 1 ≡ length (old.done ++ (l ∷ []))

@@ -1,17 +1,17 @@
 -- A line that holds a rule has no fault, and a table of such lines has none. Assumes nothing.
-use Rattle.std.proofs.Common.{◌≡◌, ℕ, ◌+◌, ◌-◌, ◌^◌, ◌<◌, Bool, true, false, ◌⊎◌, List, [], ◌∷◌, ◌++◌, map, length, get_or, Some, None, Ok, Err, IsUtf8, MatchBool, Option, Result, Vec, sym, refl, ap, ◌∙◌, subst, inl, inr, ⊎_elim, arith, length-append}
+use Rattle.std.proofs.Common.{◌≡◌, ℕ, ◌+◌, ◌-◌, ◌^◌, ◌<◌, Bool, true, false, ◌⊎◌, List, [], ◌∷◌, ◌++◌, map, length, get_or, Some, None, Ok, Err, IsUtf8, Option, Result, Vec, sym, refl, ap, ◌∙◌, subst, inl, inr, ⊎_elim, arith, length-append}
 use lib.ListN.{length-map}
 use Rattle.std.specs.Str.{IsValidUpTo}
 use Rattle.std.specs.Str.Iter.{LacksByte}
 use Rattle.std.proofs.lemmas.List.{get_or_append_left, get_or-append_right, get_or-map, get_or_at, take_all}
-use Rattle.std.proofs.lemmas.Bool.{cases_order, cases_Bool, both_ways}
+use Rattle.std.proofs.lemmas.Bool.{MatchBool-at_true, MatchBool-at_false, cases_order, cases_Bool, both_ways}
 use Rattle.tables.specs.declared.fault.TableFault.{TableFault}
 use Rattle.tables.specs.declared.fault.TableFault.TheVariants.{NoColon, NoName, NameTwice, NotANumber, TooLarge, NotUtf8, Memory}
 use Rattle.tables.specs.declared.line.Entry.{Entry}
 use Rattle.tables.specs.Lines.{content, skipped, Parted, RuleAt, LineFault, LineAs, KeepsRules}
 use Rattle.tables.specs.Numerals.{Writes, NoNumber, WideNumber}
 use Rattle.tables.specs.Pieces.{blank, Blanks, Trimmed, First, Run, RunTo}
-use Rattle.tables.specs.Rules.{lines, name_of, Holds, Apart, FaultAfter, FaultIn, TableAs, BytesAs, KeepsTables}
+use Rattle.tables.specs.Rules.{lines, name_of, Holds, Apart, FaultAfter, FaultIn, TableAs, KeepsTables}
 use Rattle.tables.proofs.Numbers.{writes_one}
 use Rattle.tables.proofs.Reading.{when_true, when_false}
 
@@ -149,24 +149,15 @@ keeps-rules n bs (Ok None) h = λ e plain rule. both_ways (skipped bs) plain h
 keeps-rules n bs (Ok (Some x)) h = λ e plain rule. tt
 keeps-rules n bs (Err f) h = λ e plain rule. rule-never n n bs e f rule h.1
 
--- When, taken apart
-pub at_true : (b : Bool) (P Q : Type 0) → b ≡ true → MatchBool b P Q → P
-at_true true P Q e h = h
-at_true false P Q e h = absurd (both_ways false refl e)
-
-pub at-false : (b : Bool) (P Q : Type 0) → b ≡ false → MatchBool b P Q → Q
-at-false true P Q e h = absurd (both_ways true e refl)
-at-false false P Q e h = h
-
 -- the line l holds the first of the rules es, and the lines ls the others
 abbrev Here : ℕ → List ℕ → List (List ℕ) → List Entry → Type 0
 Here n l ls es = (e : Entry) × (more : List Entry) × (es ≡ e ∷ more) × RuleAt n (content l) e × Holds (n + 1) ls more
 
 past_skip : (n : ℕ) (l : List ℕ) (ls : List (List ℕ)) (es : List Entry) → skipped (content l) ≡ true → Holds n (l ∷ ls) es → Holds (n + 1) ls es
-past_skip n l ls es e h = at_true (skipped (content l)) (Holds (n + 1) ls es) (Here n l ls es) e h
+past_skip n l ls es e h = MatchBool-at_true (Holds (n + 1) ls es) (Here n l ls es) e h
 
 at-rule : (n : ℕ) (l : List ℕ) (ls : List (List ℕ)) (es : List Entry) → skipped (content l) ≡ false → Holds n (l ∷ ls) es → Here n l ls es
-at-rule n l ls es e h = at-false (skipped (content l)) (Holds (n + 1) ls es) (Here n l ls es) e h
+at-rule n l ls es e h = MatchBool-at_false (Holds (n + 1) ls es) (Here n l ls es) e h
 
 -- the names of a table's rules are settled by its lines
 same_names : (n k : ℕ) (ls : List (List ℕ)) (es ds : List Entry) → Holds n ls es → Holds k ls ds → map name_of es ≡ map name_of ds
@@ -223,10 +214,10 @@ twice-never es ds rules more e x i apart whole names same_name l at =
 
 module _ (es ds rules more : List Entry) (e : Entry) (n k : ℕ) (bs : List ℕ) (apart : Apart es) (whole : es ≡ ds ++ (e ∷ more)) (names : map name_of rules ≡ map name_of ds) (rule : RuleAt n bs e) where
   fault-never : (f : TableFault) → FaultAfter rules k bs f → ⊥
-  fault-never (NoColon j) h = let z = rule-never n k bs e (NoColon j) rule h in let o : ◌≡◌ {A = ℕ} 0 1 = cc in omega arith
-  fault-never (NoName j) h = let z = rule-never n k bs e (NoName j) rule h in let o : ◌≡◌ {A = ℕ} 0 1 = cc in omega arith
-  fault-never (NotANumber j found) h = let z = rule-never n k bs e (NotANumber j found) rule h in let o : ◌≡◌ {A = ℕ} 0 1 = cc in omega arith
-  fault-never (TooLarge j found) h = let z = rule-never n k bs e (TooLarge j found) rule h in let o : ◌≡◌ {A = ℕ} 0 1 = cc in omega arith
+  fault-never (NoColon j) h = let z = rule-never n k bs e (NoColon j) rule h in cc
+  fault-never (NoName j) h = let z = rule-never n k bs e (NoName j) rule h in cc
+  fault-never (NotANumber j found) h = let z = rule-never n k bs e (NotANumber j found) rule h in cc
+  fault-never (TooLarge j found) h = let z = rule-never n k bs e (TooLarge j found) rule h in cc
   fault-never (NameTwice j name before) h =
       let x = h.1.0 in
       let stands = h.1.3 in
@@ -248,6 +239,3 @@ keeps-tables text (Err f) h = λ es held apart. ⊎_elim (λ e. e) (λ bad. absu
 
 pub no_text : (bytes : List ℕ) (at : ℕ) → IsValidUpTo bytes at → IsUtf8 bytes → ⊥
 no_text bytes at h u = h.longest (length bytes) h.short (subst IsUtf8 (sym (take_all (length bytes) bytes (omega arith))) u)
-
-pub keeps-texts : {Z : Type 0} (bytes : List ℕ) (r : Result (Vec Entry Z) TableFault) → BytesAs bytes r → IsUtf8 bytes → KeepsTables bytes r
-keeps-texts bytes r h u = ⊎_elim (λ p. keeps-tables bytes r p.1) (λ q. absurd (no_text bytes q.0 q.1 u)) h

@@ -1,12 +1,12 @@
 -- The lines of a table, and what a line holds. Assumes nothing.
-use Rattle.std.specs.Prelude.{◌≡◌, ℕ, ◌<◌, ◌≤◌, Bool, true, false, cond, ◌⊎◌, List, [], ◌∷◌, ◌++◌, length, take, Some, None, Ok, Err, vec_items, string_bytes, codes, Option, Result, Vec, ◌==◌}
+use Rattle.std.specs.Prelude.{◌≡◌, ℕ, ◌^◌, ◌<◌, ◌≤◌, Bool, true, false, cond, ◌⊎◌, List, [], ◌∷◌, ◌++◌, length, take, Some, None, Ok, Err, vec_items, string_bytes, codes, Option, Result, Vec, ◌==◌}
 use Rattle.std.specs.Str.Iter.{LacksByte}
 use Rattle.tables.specs.declared.fault.TableFault.{TableFault}
 use Rattle.tables.specs.declared.fault.TableFault.TheVariants.{NoColon, NoName, NameTwice, NotANumber, TooLarge, NotUtf8, Memory}
 use Rattle.tables.specs.declared.line.Entry.{Entry}
 use Rattle.tables.specs.declared.word.WordFault.{WordFault}
 use Rattle.tables.specs.declared.word.WordFault.TheVariants as words
-use Rattle.tables.specs.Numerals.{NoNumber, WideNumber}
+use Rattle.tables.specs.Numerals.{Writes, NoNumber, WideNumber, ReadAs}
 use Rattle.tables.specs.Pieces.{blank, Blanks, Trimmed, Run, RunTo}
 
 -- a line without the carriage return that may end it
@@ -82,6 +82,11 @@ PieceFault n p w (TooLarge k found) = (w ≡ words.TooLarge) × (k ≡ n) × Sho
 PieceFault n p w (NameTwice k name before) = ⊥
 PieceFault n p w (NotUtf8 k) = ⊥
 PieceFault n p w Memory = Unit {0}
+
+-- what a piece p of line n is read as: its word, or why it is none
+abbrev pub PieceRead : ℕ → List ℕ → Result ℕ TableFault → Type 0
+PieceRead n p (Ok w) = Writes p w × (w < 2 ^ 32)
+PieceRead n p (Err f) = (why : WordFault) × ReadAs p (Err why) × PieceFault n p why f
 
 -- the line that a fault names
 abbrev pub line_of : TableFault → Option ℕ

@@ -1,6 +1,6 @@
 // A line of a table.
 ghost use Rattle.std.specs.Prelude.{◌≡◌};
-ghost use Rattle.tables.specs.Lines.{content, KeepsRules, LineAs, PieceFault, RunAs};
+ghost use Rattle.tables.specs.Lines.{content, KeepsRules, LineAs, PieceRead, PieceFault, RunAs};
 
 use crate::blanks::{is_skipped, trim_blanks};
 use crate::fault::{TableFault, shown};
@@ -14,6 +14,42 @@ pub struct Entry {
     pub name: String,
     pub words: Vec<u32>,
     pub line: usize,
+}
+
+// Where a line stands, counted from 1, and the heap for what is read of it and for its faults.
+#[derive(Clone, Copy)]
+pub struct Line {
+    pub heap: Global,
+    pub number: usize,
+}
+
+impl Line {
+    // The words of a run, which blanks part.
+    fn words(self, run: &str) -> Result<Vec<u32>, TableFault>
+        ensures { RunAs self.number run.now result }
+    {
+        Pieces::new(run)
+            .map(|piece| self.word(piece))
+            .try_collect(self.heap)
+    }
+
+    // The word that a piece is.
+    fn word(self, piece: &str) -> Result<u32, TableFault>
+        ensures { PieceRead self.number piece.now result }
+    {
+        read_word(piece).map_err(|fault| self.fault(piece, fault))
+    }
+
+    // The fault of a piece that is no word.
+    fn fault(self, piece: &str, fault: WordFault) -> TableFault
+        ensures { PieceFault self.number piece.now fault result }
+    {
+        let line = self.number;
+        shown(self.heap, piece).map_or(TableFault::Memory, |found| match fault {
+            WordFault::NotANumber => TableFault::NotANumber { line, found },
+            WordFault::TooLarge => TableFault::TooLarge { line, found },
+        })
+    }
 }
 
 // The rule that a line holds, or `None` at a line that is empty or a comment.
@@ -30,7 +66,7 @@ pub fn read_line(heap: Global, text: &str, line: usize) -> Result<Option<Entry>,
     if name.is_empty() {
         return Err(TableFault::NoName { line });
     }
-    let words = read_words(heap, run, line)?;
+    let words = Line { heap, number: line }.words(run)?;
     let name = String::from_str(heap, name)?;
     Ok(Some(Entry { name, words, line }))
 }
@@ -40,26 +76,4 @@ pub fn before_return(text: &str) -> &str
     ensures { result.now ≡ content text.now }
 {
     text.strip_suffix('\r').unwrap_or(text)
-}
-
-// The words of a run, which blanks part.
-fn read_words(heap: Global, run: &str, line: usize) -> Result<Vec<u32>, TableFault>
-    ensures { RunAs line run.now result }
-{
-    let mut words = Vec::new(heap);
-    for piece in Pieces::new(run) {
-        let word = read_word(piece).map_err(|fault| word_fault(heap, piece, fault, line))?;
-        words.push(word)?;
-    }
-    Ok(words)
-}
-
-// The fault of a piece that is no word.
-fn word_fault(heap: Global, piece: &str, fault: WordFault, line: usize) -> TableFault
-    ensures { PieceFault line piece.now fault result }
-{
-    shown(heap, piece).map_or(TableFault::Memory, |found| match fault {
-        WordFault::NotANumber => TableFault::NotANumber { line, found },
-        WordFault::TooLarge => TableFault::TooLarge { line, found },
-    })
 }

@@ -1,51 +1,31 @@
-use Rattle.std.proofs.Common.{true, [], ◌∷◌, sym, subst}
+use Rattle.std.proofs.Common.{true, [], ◌∷◌, rules, sym, subst}
 use Rattle.tables.specs.Pieces.{Blanks, Run}
-use Rattle.scripts.specs.Calls.{AfterVerb, counts, cuts, classes, hashes, runs}
-use Rattle.scripts.specs.Readings.{Sole, NoneIs}
-use Rattle.scripts.proofs.Soles.{end_none, handed, made_none, made-sole, passed}
+use Rattle.scripts.specs.Calls.{AfterVerb, counts, cuts, classes, hashes, runs, told}
+use Rattle.scripts.specs.Readings.{Reads}
+use Rattle.scripts.proofs.Soles.{end-reads, made-reads}
 use Rattle.scripts.proofs.call.after_verb.Goals as goal
 
-pub returns-in_err-read_end-in-Count : goal.returns-in_err-read_end-in-Count
-returns-in_err-read_end-in-Count c =
-    handed _ _ _ c.from_residual-in_err-read_end-in-Count.result c.in_err-read_end-in-Count.field-0.0 c.from_residual-in_err-read_end-in-Count.ensures.1
-    (passed _ _ _ _ (λ none. subst (λ v. NoneIs (AfterVerb c.args.limit v c.args.rest.now)) (sym c.in-Count.is) (end_none counts (Blanks true c.args.rest.now) none)) c.in_err-read_end-in-Count.ensures)
+pub returns-in-Cut : goal.returns-in-Cut
+returns-in-Cut c =
+    subst (λ v. Reads c.args.line.number told (AfterVerb c.args.limit v c.args.rest.now) c.map-in-Cut.result) (sym c.in-Cut.is)
+    (made-reads c.args.line.number told cuts (λ k. Run c.args.rest.now (k ∷ [])) c.read_sole_number.result c.map-in-Cut.result _ (λ k x made. search rules) c.map-in-Cut.ensures.cases c.read_sole_number.ensures)
 
-pub returns-in_err-read_sole_number-in-Cut : goal.returns-in_err-read_sole_number-in-Cut
-returns-in_err-read_sole_number-in-Cut c =
-    handed _ _ _ c.from_residual-in_err-read_sole_number-in-Cut.result c.in_err-read_sole_number-in-Cut.field-0.0 c.from_residual-in_err-read_sole_number-in-Cut.ensures.1
-    (passed _ _ _ _ (λ none. subst (λ v. NoneIs (AfterVerb c.args.limit v c.args.rest.now)) (sym c.in-Cut.is) (made_none cuts (λ k. Run c.args.rest.now (k ∷ [])) none)) c.in_err-read_sole_number-in-Cut.ensures)
+pub returns-in-Class : goal.returns-in-Class
+returns-in-Class c =
+    subst (λ v. Reads c.args.line.number told (AfterVerb c.args.limit v c.args.rest.now) c.map-in-Class.result) (sym c.in-Class.is)
+    (made-reads c.args.line.number told classes (λ k. Run c.args.rest.now (k ∷ [])) c.read_sole_number-in-Class.result c.map-in-Class.result _ (λ k x made. search rules) c.map-in-Class.ensures.cases c.read_sole_number-in-Class.ensures)
 
-pub returns-in_ok-read_sole_number-in-Cut : goal.returns-in_ok-read_sole_number-in-Cut
-returns-in_ok-read_sole_number-in-Cut c =
-    subst (λ v. Sole (AfterVerb c.args.limit v c.args.rest.now) (cuts c.in_ok-read_sole_number-in-Cut.field-0)) (sym c.in-Cut.is)
-    (made-sole cuts (λ k. Run c.args.rest.now (k ∷ [])) c.in_ok-read_sole_number-in-Cut.field-0 c.in_ok-read_sole_number-in-Cut.ensures)
+pub returns-in-Hash : goal.returns-in-Hash
+returns-in-Hash c =
+    subst (λ v. Reads c.args.line.number told (AfterVerb c.args.limit v c.args.rest.now) c.map-in-Hash.result) (sym c.in-Hash.is)
+    (made-reads c.args.line.number told hashes (λ k. Run c.args.rest.now (k ∷ [])) c.read_sole_number-in-Hash.result c.map-in-Hash.result _ (λ k x made. search rules) c.map-in-Hash.ensures.cases c.read_sole_number-in-Hash.ensures)
 
-pub returns-in_err-read_sole_number-in-Class : goal.returns-in_err-read_sole_number-in-Class
-returns-in_err-read_sole_number-in-Class c =
-    handed _ _ _ c.from_residual-in_err-read_sole_number-in-Class.result c.in_err-read_sole_number-in-Class.field-0.0 c.from_residual-in_err-read_sole_number-in-Class.ensures.1
-    (passed _ _ _ _ (λ none. subst (λ v. NoneIs (AfterVerb c.args.limit v c.args.rest.now)) (sym c.in-Class.is) (made_none classes (λ k. Run c.args.rest.now (k ∷ [])) none)) c.in_err-read_sole_number-in-Class.ensures)
+pub returns-in-Run : goal.returns-in-Run
+returns-in-Run c =
+    subst (λ v. Reads c.args.line.number told (AfterVerb c.args.limit v c.args.rest.now) c.map-in-Run.result) (sym c.in-Run.is)
+    (made-reads c.args.line.number told runs (λ k. Run c.args.rest.now (k ∷ [])) c.read_sole_number-in-Run.result c.map-in-Run.result _ (λ k x made. search rules) c.map-in-Run.ensures.cases c.read_sole_number-in-Run.ensures)
 
-pub returns-in_ok-read_sole_number-in-Class : goal.returns-in_ok-read_sole_number-in-Class
-returns-in_ok-read_sole_number-in-Class c =
-    subst (λ v. Sole (AfterVerb c.args.limit v c.args.rest.now) (classes c.in_ok-read_sole_number-in-Class.field-0)) (sym c.in-Class.is)
-    (made-sole classes (λ k. Run c.args.rest.now (k ∷ [])) c.in_ok-read_sole_number-in-Class.field-0 c.in_ok-read_sole_number-in-Class.ensures)
-
-pub returns-in_err-read_sole_number-in-Hash : goal.returns-in_err-read_sole_number-in-Hash
-returns-in_err-read_sole_number-in-Hash c =
-    handed _ _ _ c.from_residual-in_err-read_sole_number-in-Hash.result c.in_err-read_sole_number-in-Hash.field-0.0 c.from_residual-in_err-read_sole_number-in-Hash.ensures.1
-    (passed _ _ _ _ (λ none. subst (λ v. NoneIs (AfterVerb c.args.limit v c.args.rest.now)) (sym c.in-Hash.is) (made_none hashes (λ k. Run c.args.rest.now (k ∷ [])) none)) c.in_err-read_sole_number-in-Hash.ensures)
-
-pub returns-in_ok-read_sole_number-in-Hash : goal.returns-in_ok-read_sole_number-in-Hash
-returns-in_ok-read_sole_number-in-Hash c =
-    subst (λ v. Sole (AfterVerb c.args.limit v c.args.rest.now) (hashes c.in_ok-read_sole_number-in-Hash.field-0)) (sym c.in-Hash.is)
-    (made-sole hashes (λ k. Run c.args.rest.now (k ∷ [])) c.in_ok-read_sole_number-in-Hash.field-0 c.in_ok-read_sole_number-in-Hash.ensures)
-
-pub returns-in_err-read_sole_number-in-Run : goal.returns-in_err-read_sole_number-in-Run
-returns-in_err-read_sole_number-in-Run c =
-    handed _ _ _ c.from_residual-in_err-read_sole_number-in-Run.result c.in_err-read_sole_number-in-Run.field-0.0 c.from_residual-in_err-read_sole_number-in-Run.ensures.1
-    (passed _ _ _ _ (λ none. subst (λ v. NoneIs (AfterVerb c.args.limit v c.args.rest.now)) (sym c.in-Run.is) (made_none runs (λ k. Run c.args.rest.now (k ∷ [])) none)) c.in_err-read_sole_number-in-Run.ensures)
-
-pub returns-in_ok-read_sole_number-in-Run : goal.returns-in_ok-read_sole_number-in-Run
-returns-in_ok-read_sole_number-in-Run c =
-    subst (λ v. Sole (AfterVerb c.args.limit v c.args.rest.now) (runs c.in_ok-read_sole_number-in-Run.field-0)) (sym c.in-Run.is)
-    (made-sole runs (λ k. Run c.args.rest.now (k ∷ [])) c.in_ok-read_sole_number-in-Run.field-0 c.in_ok-read_sole_number-in-Run.ensures)
+pub returns-in-Count : goal.returns-in-Count
+returns-in-Count c =
+    subst (λ v. Reads c.args.line.number told (AfterVerb c.args.limit v c.args.rest.now) c.map-in-Count.result) (sym c.in-Count.is)
+    (end-reads counts (Blanks true c.args.rest.now) c.args.line.number told c.read_end.result c.map-in-Count.result _ (λ u x made. search rules) c.map-in-Count.ensures.cases c.read_end.ensures)

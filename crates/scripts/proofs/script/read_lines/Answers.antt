@@ -1,17 +1,14 @@
-use Rattle.std.proofs.Common.{◌≡◌, ◌+◌, false, ◌⊎◌, [], ◌∷◌, is_ok, rules, Some, None, vec_items, sym, ap, ◌∙◌, subst, inl, inr}
-use Rattle.std.specs.Iterator.Adapters.{enumerate_source, enumerate_count}
-use Rattle.std.specs.Str.Iter.{split_text, split_has_more, split_pattern}
+use Rattle.std.proofs.Common.{◌≡◌, ◌+◌, false, ◌⊎◌, [], ◌∷◌, is_ok, Some, None, vec_items, sym, ap, ◌∙◌, subst}
+use Rattle.std.specs.Iterator.Adapters.{enumerate_count}
 use Rattle.std.proofs.ResultArms.{chosen}
 use Rattle.tables.specs.Lines.{content, skipped}
-use Rattle.tables.specs.Rules.{lines}
-use Rattle.tables.proofs.Mapped.{given-error}
-use Rattle.tables.proofs.Rows.{AtFeeds, left_lines, next_row, no_row, rows_left}
+use Rattle.tables.proofs.Rows.{AtFeeds, next_row, no_row, rows_left}
 use Rattle.scripts.specs.Calls.{CallAs, told, told_all}
 use Rattle.scripts.specs.Headings.{HeadingAs}
 use Rattle.scripts.specs.Readings.{line_of, NoneIs, Sole}
 use Rattle.scripts.specs.Scripts.{limit_of}
-use Rattle.scripts.specs.declared.fault.ScriptFault.TheVariants.{Memory, NoHeading}
-use Rattle.scripts.proofs.Rows.{Sofar, again-told, all_read, call-stops, heading-line, heading-stops, lines-handed, none_read, none_yet, skip-line}
+use Rattle.scripts.specs.declared.fault.ScriptFault.TheVariants.{Memory}
+use Rattle.scripts.proofs.Rows.{Sofar, again-told, call-stops, heading-line, heading-stops, lines-handed, skip-line}
 use Rattle.scripts.proofs.script.read_lines.Goals as goal
 use Rattle.scripts.proofs.script.read_lines.Goals.{In-Some, In-None, Else-is_skipped, In-None-headed, In-Some-headed}
 
@@ -33,23 +30,6 @@ at-end : (c : In-None) → Sofar c.args.text.now [] (enumerate_count c.loop-i.i-
 at-end c =
     subst (λ ls. Sofar c.args.text.now ls (enumerate_count c.loop-i.i-iterator) c.loop-i.headed (told_all (vec_items c.loop-i.calls)))
     (no_row c.loop-i.i-iterator c.next.new.self c.in-None.ensures.steps) c.loop-i.invariant.3
-
-pub loop-i-init : goal.loop-i-init
-loop-i-init c =
-    let same = c.into_iter-i-iterator.ensures.into_iter_gives in
-    let source = ap enumerate_source same ∙ c.enumerate-i-items.ensures.source in
-    let count = ap enumerate_count same ∙ c.enumerate-i-items.ensures.count in
-    let made = c.split.ensures in
-    let live = ap split_has_more source ∙ made.has_more in
-    let whole = ap split_text source ∙ made.text in
-    let more : rows_left c.into_iter-i-iterator.result ≡ lines c.args.text.now = (λ i. left_lines (live i) (whole i)) in (
-      search rules,
-      tt,
-      ap split_pattern source ∙ made.pattern,
-      subst (λ n. Sofar c.args.text.now (rows_left c.into_iter-i-iterator.result) n None (told_all (vec_items c.new-calls.result))) (sym count)
-          (subst (λ ls. Sofar c.args.text.now ls 0 None (told_all (vec_items c.new-calls.result))) (sym more)
-          (none_yet c.args.text.now (told_all (vec_items c.new-calls.result)) (ap told_all c.new-calls.ensures.items))),
-    )
 
 pub loop-i-preserved-then-is_skipped : goal.loop-i-preserved-then-is_skipped
 loop-i-preserved-then-is_skipped c =
@@ -118,15 +98,3 @@ loop-i-preserved c =
       subst (λ n. Sofar c.args.text.now (rows_left c.next.new.self) n c.loop-i.headed (told_all (vec_items c.push.new.self))) (sym (counted at.In-Some))
           (again-told _ _ _ _ _ _ (vec_items c.loop-i.calls) (vec_items c.push.new.self) (after-heading at.In-Some-headed) (plain at.Else-is_skipped) x one c.in-Some-headed.is pushed),
     )
-
-pub returns-in_err-kind : goal.returns-in_err-kind
-returns-in_err-kind c =
-    let end = subst (λ h. Sofar c.args.text.now [] (enumerate_count c.loop-i.i-iterator) h (told_all (vec_items c.loop-i.calls))) c.in_err-kind.ensures.ok_part (at-end (goal.at.returns-in_err-kind c).In-None) in
-    let why = given-error c.loop-i.headed c.in_err-kind.field-0.0 NoHeading c.in_err-kind.ensures.ok_part c.in_err-kind.ensures.value in
-    lines-handed (λ x. ((x.0, x.1), told_all x.2.items)) (lines c.args.text.now) c.from_residual-in_err-kind.result c.in_err-kind.field-0.0 c.from_residual-in_err-kind.ensures.1
-    (inr (inl (why, none_read _ _ _ end)))
-
-pub returns : goal.returns
-returns c =
-    let end = subst (λ h. Sofar c.args.text.now [] (enumerate_count c.loop-i.i-iterator) h (told_all (vec_items c.loop-i.calls))) c.in_ok-kind.ensures.ok_part (at-end (goal.at.returns c).In-None) in
-    all_read _ _ _ _ end

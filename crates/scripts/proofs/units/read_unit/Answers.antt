@@ -1,16 +1,10 @@
-use Rattle.std.proofs.Common.{◌≤◌, ◌<◌, arith}
+use Rattle.std.proofs.Common.{◌<◌, arith}
 use Rattle.scripts.specs.Parts.{UnitAt}
 use Rattle.scripts.specs.Readings.{NoneIs}
-use Rattle.scripts.proofs.Numbers.{unit-sole, unit-bad, unit-above}
+use Rattle.scripts.proofs.Numbers.{unit-bad, unit-above}
 use Rattle.scripts.proofs.Soles.{refused}
 use Rattle.scripts.proofs.units.read_unit.Goals as goal
 use Rattle.scripts.proofs.units.read_unit.Goals.{in_default-via-in-Ok+else-word-limit, in_default-via-in_default}
-
-pub returns-in-Ok : goal.returns-in-Ok
-returns-in-Ok c =
-    let told = c.in-Ok.ensures.cases in
-    let under : c.in-Ok.word ≤ c.args.limit = omega (arith, c.if-word-limit.true) in
-    unit-sole c.args.limit c.args.piece.now c.in-Ok.word told.0 told.1 under
 
 pub returns-in_default : goal.returns-in_default
 returns-in_default c =

@@ -1,27 +1,14 @@
-use Rattle.std.proofs.Common.{is_ok, sym, ap, ◌∙◌, subst}
-use Rattle.std.proofs.ResultArms.{chosen}
-use Rattle.tables.specs.Pieces.{left}
-use Rattle.scripts.proofs.Listed.{Sofar, none_yet, all_read, one_more, stops-here}
-use Rattle.scripts.proofs.Soles.{handed, passed}
+use Rattle.std.proofs.Common.{rules, subst, vec_items}
+use Rattle.tables.proofs.Gathered.{GivesPiece, gathered}
+use Rattle.scripts.specs.Parts.{Units}
+use Rattle.scripts.specs.Readings.{Reads}
+use Rattle.scripts.proofs.Listed.{IsUnit, units-read}
 use Rattle.scripts.proofs.units.read_units.Goals as goal
 
-pub loop-piece-init : goal.loop-piece-init
-loop-piece-init c =
-    let limit = c.args.limit in
-    let whole = ap left c.into_iter-piece-iterator.ensures.into_iter_gives ∙ c.new-piece-items.ensures in
-    subst (Sofar limit c.args.text.now _) (sym whole) (subst (λ us. Sofar limit c.args.text.now us c.args.text.now) (sym c.new-units.ensures.items) (none_yet limit c.args.text.now))
-
-pub returns-in_err-read_unit : goal.returns-in_err-read_unit
-returns-in_err-read_unit c =
-    handed _ _ _ c.from_residual.result c.in_err-read_unit.field-0.0 c.from_residual.ensures.1
-    (passed _ _ _ _ (stops-here c.args.limit c.args.text.now _ _ _ _ c.loop-piece.invariant c.in-Some.ensures.steps) c.in_err-read_unit.ensures)
-
-pub loop-piece-preserved : goal.loop-piece-preserved
-loop-piece-preserved c =
-    let limit = c.args.limit in
-    let pushed = chosen _ _ _ _ c.push.ensures.items (ap is_ok c.in_ok-push.was) in
-    subst (λ l. Sofar limit c.args.text.now l (left c.next.new.self)) (sym pushed)
-    (one_more limit c.args.text.now _ _ _ _ c.loop-piece.invariant c.in-Some.ensures.steps _ c.in_ok-read_unit.ensures.holds)
-
 pub returns : goal.returns
-returns c = all_read c.args.limit c.args.text.now _ _ c.loop-piece.invariant c.in-None.ensures.steps.0
+returns c =
+    let limit = c.args.limit in
+    let number = c.args.line.number in
+    let all = gathered GivesPiece _ _ (IsUnit limit number) (λ p r h k. search rules) _ c.new.result c.map.result c.try_collect.result
+    c.map.ensures.closure c.map.ensures.source c.try_collect.ensures.ran c.try_collect.ensures.err in
+    subst (λ text. Reads number vec_items (Units limit text) c.try_collect.result) c.new.ensures (units-read limit number c.new.result c.try_collect.result all)

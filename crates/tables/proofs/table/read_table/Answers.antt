@@ -5,8 +5,8 @@ use Rattle.std.proofs.ResultArms.{chosen}
 use Rattle.std.proofs.lemmas.Result.{err_from_is_err_and}
 use Rattle.tables.specs.Lines.{content, skipped, RuleAt, LineAs}
 use Rattle.tables.specs.Rules.{lines, TableAs}
-use Rattle.tables.proofs.Reading.{Sofar, none_yet, all_read, skip-line, rule-line, line-stops, name-stops}
-use Rattle.tables.proofs.Rows.{AtFeeds, left_lines, next_row, no_row, rows_left}
+use Rattle.tables.proofs.Reading.{Sofar, none_yet, skip-line, rule-line, line-stops, name-stops}
+use Rattle.tables.proofs.Rows.{AtFeeds, left_lines, next_row, rows_left}
 use Rattle.tables.proofs.Sole.{keeps-tables}
 use Rattle.tables.proofs.table.read_table.Goals as goal
 use Rattle.tables.proofs.table.read_table.Goals.{In-Some, In-Some-2}
@@ -87,9 +87,3 @@ loop-i-preserved c =
       feeds at.In-Some,
       subst (λ n. Sofar c.args.text.now (rows_left c.next.new.self) n (vec_items c.loop-i.entries) c.loop-i.seen) (sym (counted at.In-Some)) (skip-line _ _ _ _ _ _ (at_row at.In-Some) skip),
     )
-
-pub returns : goal.returns
-returns c =
-    let none = no_row c.loop-i.i-iterator c.next.new.self c.in-None.ensures.steps in
-    let read = all_read _ _ _ c.loop-i.seen (subst (λ ls. Sofar c.args.text.now ls (enumerate_count c.loop-i.i-iterator) (vec_items c.loop-i.entries) c.loop-i.seen) none c.loop-i.invariant.3) in
-    record { reads = read; keeps = λ es held apart. tt }
