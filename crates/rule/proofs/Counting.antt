@@ -14,10 +14,10 @@ sizes_of ws p zero sizes = 0
 sizes_of ws p (suc n) sizes = get_or sizes (get_or ws p 0) 0 + sizes_of ws (p + 1) n sizes
 
 -- how often x stands at one place
-abbrev hit : ℕ → List ℕ → ℕ → ℕ
+abbrev pub hit : ℕ → List ℕ → ℕ → ℕ
 hit x ws p = cond (eqb (get_or ws p 0) x) 1 0
 
-hit_other : (x : ℕ) (ws : List ℕ) (p : ℕ) → (get_or ws p 0 ≡ x → ⊥) → hit x ws p ≡ 0
+pub hit_other : (x : ℕ) (ws : List ℕ) (p : ℕ) → (get_or ws p 0 ≡ x → ⊥) → hit x ws p ≡ 0
 hit_other x ws p n = cond-false (eqb (get_or ws p 0) x) 1 0 (ne_eqb _ _ n)
 
 -- the numbers of a list that the run has from p on, counted and added up
