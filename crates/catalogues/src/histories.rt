@@ -7,7 +7,7 @@ use catalogue::record::Slot;
 use hashing::fnv1a::Fnv1a;
 use hashing::hasher::Hasher;
 use hashing::rotating::Rotating;
-use std::alloc::Global;
+use std::alloc::AllocGlobal;
 use std::process::Abort;
 use std::test::Fail;
 
@@ -23,10 +23,10 @@ fn agrees<H: Hasher>(rt: &impl Abort, store: &Store<H>, model: &Model) {
     }
 }
 
-pub(crate) fn follows<H: Hasher>(rt: &impl Abort, heap: Global, store: &mut Store<H>, seed: u64) {
+pub(crate) fn follows<H: Hasher, R: Abort + AllocGlobal>(rt: &R, store: &mut Store<H>, seed: u64) {
     let mut picks = Picks { state: seed };
     let mut model = Model {
-        runs: Vec::new(heap),
+        runs: Vec::new(rt.alloc()),
         slots: store.slots.len(),
         units: store.units.len(),
     };
@@ -37,25 +37,22 @@ pub(crate) fn follows<H: Hasher>(rt: &impl Abort, heap: Global, store: &mut Stor
     }
 }
 
-// Kept: what can stop a test gives no memory, so both are handed down.
-fn same_history(
-    rt: &impl Abort,
-    heap: Global,
+fn same_history<R: Abort + AllocGlobal>(
+    rt: &R,
     seed: u64,
     slots: usize,
     units: usize,
 ) -> Result<(), Fail> {
-    let mut rotating = Store::<Rotating>::new(heap, slots, units, Slot::default(), 0)?;
-    follows(rt, heap, &mut rotating, seed);
-    let mut fnv1a = Store::<Fnv1a>::new(heap, slots, units, Slot::default(), 0)?;
-    follows(rt, heap, &mut fnv1a, seed);
+    let mut rotating = Store::<Rotating>::new(rt.alloc(), slots, units, Slot::default(), 0)?;
+    follows(rt, &mut rotating, seed);
+    let mut fnv1a = Store::<Fnv1a>::new(rt.alloc(), slots, units, Slot::default(), 0)?;
+    follows(rt, &mut fnv1a, seed);
     Ok(())
 }
 
 #[test]
 fn both_hashers_answer_as_the_model(rt: HostRuntime) -> Result<(), Fail> {
-    let heap = rt.alloc();
-    same_history(&rt, heap, 1, 20, 1000)?;
-    same_history(&rt, heap, 2, 20, 60)?;
-    same_history(&rt, heap, 3, 5, 2000)
+    same_history(&rt, 1, 20, 1000)?;
+    same_history(&rt, 2, 20, 60)?;
+    same_history(&rt, 3, 5, 2000)
 }

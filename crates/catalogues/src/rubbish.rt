@@ -10,7 +10,7 @@ use hashing::fnv1a::Fnv1a;
 use hashing::hasher::Hasher;
 use hashing::rotating::Rotating;
 use kinds::names::Names;
-use std::alloc::Global;
+use std::alloc::AllocGlobal;
 use std::process::Abort;
 use std::test::Fail;
 
@@ -33,23 +33,23 @@ fn plausible<H: Hasher>(start: usize) -> Slot {
     }
 }
 
-fn filled<H: Hasher>(rt: &impl Abort, heap: Global, slot: Slot, unit: u8) -> Result<(), Fail> {
-    let mut store = Store::<H>::new(heap, 12, 80, slot, unit)?;
-    follows(rt, heap, &mut store, 5);
+fn filled<H: Hasher, R: Abort + AllocGlobal>(rt: &R, slot: Slot, unit: u8) -> Result<(), Fail> {
+    let mut store = Store::<H>::new(rt.alloc(), 12, 80, slot, unit)?;
+    follows(rt, &mut store, 5);
     Ok(())
 }
 
-fn each_filling<H: Hasher>(rt: &impl Abort, heap: Global) -> Result<(), Fail> {
-    filled::<H>(rt, heap, ONES, 255)?;
-    filled::<H>(rt, heap, plausible::<H>(0), b'a')?;
-    filled::<H>(rt, heap, plausible::<H>(79), b'a')?;
-    filled::<H>(rt, heap, plausible::<H>(80), b'b')
+fn each_filling<H: Hasher, R: Abort + AllocGlobal>(rt: &R) -> Result<(), Fail> {
+    filled::<H, R>(rt, ONES, 255)?;
+    filled::<H, R>(rt, plausible::<H>(0), b'a')?;
+    filled::<H, R>(rt, plausible::<H>(79), b'a')?;
+    filled::<H, R>(rt, plausible::<H>(80), b'b')
 }
 
 #[test]
 fn what_stood_before_alters_no_answer(rt: HostRuntime) -> Result<(), Fail> {
-    each_filling::<Rotating>(&rt, rt.alloc())?;
-    each_filling::<Fnv1a>(&rt, rt.alloc())
+    each_filling::<Rotating, _>(&rt)?;
+    each_filling::<Fnv1a, _>(&rt)
 }
 
 // A number that is small, or near the highest.
@@ -100,9 +100,9 @@ fn fair(answer: Answer) -> bool {
     }
 }
 
-fn disturbed<H: Hasher>(rt: &impl Abort, heap: Global, seed: u64) -> Result<(), Fail> {
+fn disturbed<H: Hasher, R: Abort + AllocGlobal>(rt: &R, seed: u64) -> Result<(), Fail> {
     let mut picks = Picks { state: seed };
-    let mut store = Store::<H>::new(heap, 12, 80, ONES, 0)?;
+    let mut store = Store::<H>::new(rt.alloc(), 12, 80, ONES, 0)?;
     for _ in 0..1000 {
         assert!(rt; fair(store.answer(picks.call())));
         disturb(&mut store, &mut picks);
@@ -114,6 +114,6 @@ fn disturbed<H: Hasher>(rt: &impl Abort, heap: Global, seed: u64) -> Result<(), 
 
 #[test]
 fn calls_over_rubbish_return(rt: HostRuntime) -> Result<(), Fail> {
-    disturbed::<Rotating>(&rt, rt.alloc(), 6)?;
-    disturbed::<Fnv1a>(&rt, rt.alloc(), 7)
+    disturbed::<Rotating, _>(&rt, 6)?;
+    disturbed::<Fnv1a, _>(&rt, 7)
 }

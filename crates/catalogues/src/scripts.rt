@@ -5,7 +5,7 @@ use catalogue::record::Slot;
 use hashing::fnv1a::Fnv1a;
 use hashing::hasher::Hasher;
 use hashing::rotating::Rotating;
-use std::alloc::Global;
+use std::alloc::AllocGlobal;
 use std::process::Abort;
 use std::test::Fail;
 
@@ -16,16 +16,15 @@ pub(crate) fn plays<H: Hasher>(rt: &impl Abort, store: &mut Store<H>, steps: &[(
 }
 
 // From the first call on, over clean memory, under both hashers.
-pub(crate) fn both(
-    rt: &impl Abort,
-    heap: Global,
+pub(crate) fn both<R: Abort + AllocGlobal>(
+    rt: &R,
     slots: usize,
     units: usize,
     steps: &[(Call, Answer)],
 ) -> Result<(), Fail> {
-    let mut rotating = Store::<Rotating>::new(heap, slots, units, Slot::default(), 0)?;
+    let mut rotating = Store::<Rotating>::new(rt.alloc(), slots, units, Slot::default(), 0)?;
     plays(rt, &mut rotating, steps);
-    let mut fnv1a = Store::<Fnv1a>::new(heap, slots, units, Slot::default(), 0)?;
+    let mut fnv1a = Store::<Fnv1a>::new(rt.alloc(), slots, units, Slot::default(), 0)?;
     plays(rt, &mut fnv1a, steps);
     Ok(())
 }

@@ -7,7 +7,7 @@ use catalogue::record::Slot;
 use hashing::fnv1a::Fnv1a;
 use hashing::hasher::Hasher;
 use hashing::rotating::Rotating;
-use std::alloc::Global;
+use std::alloc::AllocGlobal;
 use std::process::Abort;
 use std::test::Fail;
 
@@ -23,7 +23,7 @@ fn the_slots_can_be_filled(rt: HostRuntime) -> Result<(), Fail> {
         (Call::Find(b"b"), Answer::Found(Some(1))),
         (Call::Find(b"c"), Answer::Found(None)),
     ];
-    both(&rt, rt.alloc(), 3, 100, &steps)
+    both(&rt, 3, 100, &steps)
 }
 
 #[test]
@@ -38,7 +38,7 @@ fn the_units_can_be_filled(rt: HostRuntime) -> Result<(), Fail> {
         (Call::Entry(0, b"aa"), Answer::Class(0)),
         (Call::Entry(1, b"bbb"), Answer::Class(1)),
     ];
-    both(&rt, rt.alloc(), 9, 5, &steps)
+    both(&rt, 9, 5, &steps)
 }
 
 #[test]
@@ -52,7 +52,7 @@ fn the_input_is_tested_first_and_the_units_last(rt: HostRuntime) -> Result<(), F
         (Call::Enter(b""), Answer::Refused(2)),
         (Call::Counts, Answer::Counts(1, 1)),
     ];
-    both(&rt, rt.alloc(), 1, 2, &steps)
+    both(&rt, 1, 2, &steps)
 }
 
 #[test]
@@ -68,7 +68,7 @@ fn a_name_has_1_to_255_bytes(rt: HostRuntime) -> Result<(), Fail> {
         (Call::Counts, Answer::Counts(1, 1)),
         (Call::Entry(0, longest()), Answer::Class(0)),
     ];
-    both(&rt, rt.alloc(), 9, 600, &steps)
+    both(&rt, 9, 600, &steps)
 }
 
 // Three names by turns, so that each is found among the first three entries.
@@ -80,8 +80,8 @@ fn turn(i: usize) -> &'static [u8] {
     }
 }
 
-fn most_entries<H: Hasher>(rt: &impl Abort, heap: Global) -> Result<(), Fail> {
-    let mut store = Store::<H>::new(heap, 65540, 65540, Slot::default(), 0)?;
+fn most_entries<H: Hasher, R: Abort + AllocGlobal>(rt: &R) -> Result<(), Fail> {
+    let mut store = Store::<H>::new(rt.alloc(), 65540, 65540, Slot::default(), 0)?;
     for i in 0..65536 {
         assert_eq!(rt; store.enter(turn(i)), Answer::Entered(i, i % 3));
     }
@@ -101,8 +101,8 @@ fn most_entries<H: Hasher>(rt: &impl Abort, heap: Global) -> Result<(), Fail> {
 
 #[test]
 fn no_more_than_65536_entries_stand(rt: HostRuntime) -> Result<(), Fail> {
-    most_entries::<Rotating>(&rt, rt.alloc())?;
-    most_entries::<Fnv1a>(&rt, rt.alloc())
+    most_entries::<Rotating, _>(&rt)?;
+    most_entries::<Fnv1a, _>(&rt)
 }
 
 #[test]
@@ -134,7 +134,7 @@ fn old_memory_is_used_again(rt: HostRuntime) -> Result<(), Fail> {
         (Call::Enter(b"dd"), Answer::Entered(0, 0)),
         (Call::Entry(0, b"dd"), Answer::Class(0)),
     ];
-    both(&rt, rt.alloc(), 5, 9, &steps)
+    both(&rt, 5, 9, &steps)
 }
 
 #[test]
@@ -152,7 +152,7 @@ fn a_cut_above_or_at_the_standing_number_alters_nothing(rt: HostRuntime) -> Resu
         (Call::Enter(b"bb"), Answer::Refused(21)),
         (Call::Enter(b"b"), Answer::Entered(2, 1)),
     ];
-    both(&rt, rt.alloc(), 9, 4, &steps)
+    both(&rt, 9, 4, &steps)
 }
 
 #[test]
@@ -178,5 +178,5 @@ fn only_what_stands_in_the_memory_handed_is_told(rt: HostRuntime) -> Result<(), 
         (Call::Told(5, 20, 0), Answer::Told(0, 0, 0)),
         (Call::Told(5, 20, 1), Answer::Told(22, 22, 22)),
     ];
-    both(&rt, rt.alloc(), 5, 20, &steps)
+    both(&rt, 5, 20, &steps)
 }
