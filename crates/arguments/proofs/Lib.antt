@@ -1,2 +1,1 @@
-pub mod Answerable
 pub mod Tails

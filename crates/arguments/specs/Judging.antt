@@ -37,7 +37,7 @@ JudgingAs args (Ok (Classes asked)) = ⊥
 JudgingAs args (Ok (Replay script)) = ⊥
 JudgingAs args (Err m) = CommandRefused args m ⊎ (Unjudging args × Finds {A = Unit {0}} NoCommand (Is args 1) (Err m))
 
--- the misuses that are ever answered, as proofs/Answerable.antt has it
+-- the misuses by which the commands that judge rules are refused
 abbrev pub Answerable : Misuse → Type 0
 Answerable (Missing Table) = Unit {0}
 Answerable (Missing Names) = Unit {0}

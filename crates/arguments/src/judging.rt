@@ -1,5 +1,6 @@
 // What the arguments of the commands that judge rules ask for: help, check, compare and change, and nothing of hashes or catalogues.
-ghost use Rattle.arguments.specs.Judging.{JudgingAs};
+ghost use Rattle.std.specs.Prelude.{IfErr};
+ghost use Rattle.arguments.specs.Judging.{Answerable, JudgingAs};
 ghost use Rattle.arguments.specs.Texts.{said_with_help};
 
 use crate::command::Command;
@@ -35,7 +36,8 @@ impl<'a> fmt::Display for WithHelp<'a> {
 // The first of the arguments is the program's own name.
 #[tactic(auto, using(crate::proofs::Tails::tail_is))]
 pub fn parse_args(args: &[String]) -> Result<Command<'_>, Misuse<'_>>
-    ensures { JudgingAs args.now result }
+    ensures reads { JudgingAs args.now result }
+    ensures misuse { IfErr result Answerable }
 {
     let [_, word, rest @ ..] = args else {
         return Ok(Command::Help);

@@ -15,6 +15,10 @@ pub record Spelt (ws : List ℕ) (o : ℕ) (n : Node) : Type 0 where
   pub count : length n.kids.now ≡ kids_at ws o
   pub each : (q : ℕ) → q < kids_at ws o → slice_index n.kids.now q ≡ kid_at ws o q
 
+-- the local that a node declares: that of a binding (41)
+abbrev pub declared_by : Node → Option ℕ
+declared_by n = cond (n.code == 41) (Some n.v) None
+
 -- the local that a node uses: that of a path to a local (70 with v 0)
 abbrev pub local_of : Node → Option ℕ
 local_of n = cond (n.code == 70 && n.v == 0) (Some n.w) None

@@ -2,7 +2,7 @@ ghost use Rattle.std.specs.Prelude.{◌≡◌, ℕ, ◌+◌, ◌-◌, ◌<◌, �
 ghost use Rattle.rule.specs.Faults.{number_of};
 ghost use Rattle.rule.specs.Intake.{Read, Refused};
 
-use crate::codes::{BINARY, BLOCK, PATH};
+use crate::codes::{BINARY, BINDING, BLOCK, PATH};
 use crate::comparison::Comparison;
 use crate::fault::Fault;
 use crate::lookup::row_of;
@@ -40,7 +40,14 @@ pub struct Node<'a> {
 
 impl<'a> Node<'a> {
     ghost use Rattle.rule.specs.Lookup.{row_of};
-    ghost use Rattle.rule.specs.Nodes.{local_of, comparison_in, plain_block};
+    ghost use Rattle.rule.specs.Nodes.{declared_by, local_of, comparison_in, plain_block};
+
+    /// The local that the node declares: a binding does.
+    pub fn declared(self) -> Option<u32>
+        ensures { result ≡ declared_by self.entry }
+    {
+        (self.code == BINDING).then_some(self.v)
+    }
 
     // The row that the node's words are within.
     pub(crate) fn row(self) -> Option<Row>

@@ -43,4 +43,4 @@ returns-in_err-one_file-in-replay c =
 
 pub returns-in_default-as_str : goal.returns-in_default-as_str
 returns-in_default-as_str c =
-    judged _ _ (search rules) (search rules) (search rules) c.parse_args-in_default-as_str.ensures
+    judged _ _ (search rules) (search rules) (search rules) c.parse_args-in_default-as_str.ensures.reads
