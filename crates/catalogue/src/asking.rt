@@ -33,7 +33,7 @@ pub fn standing<H>(cat: &Catalogue<H>) -> usize
 }
 
 /// The class of an entry.
-// Kept: beside `hash_of`, since each part of an entry is asked for apart, by a name of its own.
+// Kept: beside `hash_of`, one expression each: what the two share is `slot_of`.
 pub fn class_of<H>(cat: &Catalogue<H>, slots: &[Slot], number: usize) -> Result<usize, NotStanding>
     ensures { PartDone (numbers_of cat.now) slots.now number (λ s. s.class) result }
 {

@@ -105,6 +105,7 @@ fn end_within(start: usize, len: usize, units: usize) -> Option<usize>
 }
 
 // An empty slot stands for one that is not within the memory.
+// Kept: no Option, since a cut is refused by the standing number alone, and what it makes of a slot that was not handed is this.
 fn slot_at(slots: &[Slot], i: usize) -> Slot
     ensures { result ≡ slot_at slots.now i }
 {

@@ -1,5 +1,4 @@
 // What the calls keep: a record of three numbers, and the slots and units that the caller hands to each call.
-// Kept: the slots and units are no fields of the record, since its memory is fixed, and lent anew to each call.
 ghost use Rattle.std.specs.Prelude.{◌≤◌};
 
 use std::marker::PhantomData;
@@ -32,6 +31,7 @@ impl Slot {
 }
 
 /// The record of a catalogue whose hashes are those of `H`.
+// Kept: the slots and units are no fields of it, since the memory is fixed, and lent anew to each call.
 #[derive(Drop)]
 pub struct Catalogue<H> {
     pub(crate) standing: usize,

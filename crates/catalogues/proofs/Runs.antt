@@ -33,15 +33,6 @@ no_number r i f e =
     let z : ◌≡◌ {A = ℕ} 0 1 = cc in
     omega arith
 
--- the units of one run more
-total_suc : (rs : List (List ℕ)) (i : ℕ) → i < length rs → total (take (suc i) rs) ≡ total (take i rs) + length (entry rs i)
-total_suc [] i lt = absurd (omega arith)
-total_suc (r ∷ rs) zero lt = omega arith
-total_suc (r ∷ rs) (suc i) lt = let e = total_suc rs i (omega arith) in omega arith
-
-pub total-more : (rs : List (List ℕ)) (i : ℕ) → i < length rs → total (take (i + 1) rs) ≡ total (take i rs) + length (entry rs i)
-total-more rs i lt = rw add-one (total_suc rs i lt)
-
 -- an entry that is the first of its equals begins a class
 first-begins : (rs : List (List ℕ)) (i : ℕ) → FirstSame names rs (entry rs i) (Some i) → Begins names rs i
 first-begins rs i f = f.2

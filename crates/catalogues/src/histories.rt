@@ -37,17 +37,25 @@ pub(crate) fn follows<H: Hasher, R: Abort + AllocGlobal>(rt: &R, store: &mut Sto
     }
 }
 
+fn history<H: Hasher, R: Abort + AllocGlobal>(
+    rt: &R,
+    seed: u64,
+    slots: usize,
+    units: usize,
+) -> Result<(), Fail> {
+    let mut store = Store::<H>::new(rt.alloc(), slots, units, Slot::default(), 0)?;
+    follows(rt, &mut store, seed);
+    Ok(())
+}
+
 fn same_history<R: Abort + AllocGlobal>(
     rt: &R,
     seed: u64,
     slots: usize,
     units: usize,
 ) -> Result<(), Fail> {
-    let mut rotating = Store::<Rotating>::new(rt.alloc(), slots, units, Slot::default(), 0)?;
-    follows(rt, &mut rotating, seed);
-    let mut fnv1a = Store::<Fnv1a>::new(rt.alloc(), slots, units, Slot::default(), 0)?;
-    follows(rt, &mut fnv1a, seed);
-    Ok(())
+    history::<Rotating, R>(rt, seed, slots, units)?;
+    history::<Fnv1a, R>(rt, seed, slots, units)
 }
 
 #[test]

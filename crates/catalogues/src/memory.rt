@@ -10,7 +10,8 @@ use kinds::names::Names;
 use std::alloc::{AllocError, Global};
 
 /// A catalogue, and the slots and units that are handed to its calls.
-// Kept: the calls of a script own their runs, and these are lent theirs; and here fewer slots and units can be handed than there are.
+// Kept: the calls of a script own their runs, and these are lent theirs; here fewer slots and units can be handed than there
+// are; and this crate would come to depend on two more for the making of a store.
 #[derive(Drop)]
 pub(crate) struct Store<H> {
     pub(crate) cat: Catalogue<H>,
@@ -48,26 +49,20 @@ impl<H: Hasher> Store<H> {
     pub(crate) fn enter(&mut self, run: &[u8]) -> Answer {
         let slots = self.slots.as_mut_slice();
         let units = self.units.as_mut_slice();
-        match enter(&mut self.cat, &Names, slots, units, run) {
-            Ok(entered) => Answer::Entered(entered.number, entered.class),
-            Err(fault) => Answer::Refused(fault.number()),
-        }
+        enter(&mut self.cat, &Names, slots, units, run).map_or_else(
+            refused,
+            |entered| Answer::Entered(entered.number, entered.class),
+        )
     }
 
     fn find(&self, run: &[u8]) -> Answer {
         let slots = self.slots.as_slice();
         let units = self.units.as_slice();
-        match find(&self.cat, &Names, slots, units, run) {
-            Ok(found) => Answer::Found(found),
-            Err(fault) => Answer::Refused(fault.number()),
-        }
+        find(&self.cat, &Names, slots, units, run).map_or_else(refused, Answer::Found)
     }
 
     fn cut(&mut self, keep: usize) -> Answer {
-        match cut(&mut self.cat, self.slots.as_slice(), keep) {
-            Ok(()) => Answer::Cut,
-            Err(fault) => Answer::Refused(fault.number()),
-        }
+        cut(&mut self.cat, self.slots.as_slice(), keep).map_or_else(refused, |()| Answer::Cut)
     }
 
     pub(crate) fn counts(&self) -> Answer {
@@ -79,10 +74,7 @@ impl<H: Hasher> Store<H> {
 
     // The class of an entry that has this run and this run's hash.
     pub(crate) fn entry(&self, number: usize, run: &[u8]) -> Answer {
-        match self.stored(number, run) {
-            Ok(answer) => answer,
-            Err(fault) => Answer::Refused(fault.number()),
-        }
+        self.stored(number, run).unwrap_or_else(refused)
     }
 
     fn stored(&self, number: usize, run: &[u8]) -> Result<Answer, NotStanding> {
@@ -99,15 +91,19 @@ impl<H: Hasher> Store<H> {
     pub(crate) fn told(&self, slots: usize, units: usize, number: usize) -> Answer {
         let slots = front(self.slots.as_slice(), slots);
         let units = front(self.units.as_slice(), units);
-        let class = refusal(class_of(&self.cat, slots, number));
-        let hash = refusal(hash_of(&self.cat, slots, number));
-        let run = refusal(run_of(&self.cat, slots, units, number));
+        let class = number_of(class_of(&self.cat, slots, number));
+        let hash = number_of(hash_of(&self.cat, slots, number));
+        let run = number_of(run_of(&self.cat, slots, units, number));
         Answer::Told(class, hash, run)
     }
 }
 
+fn refused<F: Numbered>(fault: F) -> Answer {
+    Answer::Refused(fault.number())
+}
+
 // The number of the fault, or 0.
-fn refusal<T: Drop>(answer: Result<T, NotStanding>) -> u8 {
+fn number_of<T: Drop>(answer: Result<T, NotStanding>) -> u8 {
     answer.err().map_or(0, |fault| fault.number())
 }
 

@@ -1,5 +1,5 @@
 // What a catalogue of names should answer, by the runs that stand alone: a linear search by equality.
-ghost use Rattle.std.specs.Prelude.{◌≡◌, ℕ, ◌<◌, length, min, IfNone, IfSome};
+ghost use Rattle.std.specs.Prelude.{◌≡◌, ℕ, ◌<◌, length, min, IfErr, OnOk};
 ghost use Rattle.catalogue.specs.Classes.{Begun, ClassOf, FirstSame, entry};
 ghost use Rattle.catalogue.specs.Kinds.{FirstOf, SoundBy};
 ghost use Rattle.catalogue.specs.Model.{total};
@@ -35,8 +35,8 @@ impl Model {
         ensures { Modest self.old → EnterAnswered self.old run.now result self.new }
     {
         let number = self.runs.len();
-        if let Some(met) = number_met(run) {
-            return Answer::Refused(met.number());
+        if let Err(fault) = tested(run) {
+            return Answer::Refused(fault.number());
         }
         if number >= self.slots {
             return Answer::Refused(20);
@@ -53,8 +53,8 @@ impl Model {
     fn find(&self, run: &'static [u8]) -> Answer
         ensures { FindAnswered self.now run.now result }
     {
-        if let Some(met) = number_met(run) {
-            return Answer::Refused(met.number());
+        if let Err(fault) = tested(run) {
+            return Answer::Refused(fault.number());
         }
         Answer::Found(self.first(run))
     }
@@ -108,18 +108,18 @@ impl Model {
     }
 }
 
-/// The fault of the first number of the names' input list that the run meets, or none.
+/// The fault of the first number of the names' input list that the run meets.
 // Kept: no call of the kind's own intake, since the model is to share no test with what is held against it; the faults and
 // their numbers it shares.
-pub fn number_met(run: &[u8]) -> Option<NameFault>
-    ensures sound { IfNone result (SoundBy meets_name run.now) }
-    ensures first { IfSome result (λ e. FirstOf meets_name run.now (name_number e)) }
+pub fn tested(run: &[u8]) -> Result<(), NameFault>
+    ensures sound { OnOk result (SoundBy meets_name run.now) }
+    ensures first { IfErr result (λ e. FirstOf meets_name run.now (name_number e)) }
 {
     if run.len() > 255 {
-        return Some(NameFault::TooLong);
+        return Err(NameFault::TooLong);
     }
     if run.is_empty() {
-        return Some(NameFault::Empty);
+        return Err(NameFault::Empty);
     }
-    None
+    Ok(())
 }

@@ -88,7 +88,7 @@ fn disturb<H: Hasher>(store: &mut Store<H>, picks: &mut Picks) {
 
 // Not refused, or by a number that is listed.
 fn listed(number: u8) -> bool {
-    number <= 7 || 20 <= number && number <= 22
+    matches!(number, 0..=7 | 20..=22)
 }
 
 fn fair(answer: Answer) -> bool {

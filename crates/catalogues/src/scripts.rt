@@ -15,16 +15,25 @@ pub(crate) fn plays<H: Hasher>(rt: &impl Abort, store: &mut Store<H>, steps: &[(
     }
 }
 
-// From the first call on, over clean memory, under both hashers.
+// From the first call on, over clean memory.
+fn history<H: Hasher, R: Abort + AllocGlobal>(
+    rt: &R,
+    slots: usize,
+    units: usize,
+    steps: &[(Call, Answer)],
+) -> Result<(), Fail> {
+    let mut store = Store::<H>::new(rt.alloc(), slots, units, Slot::default(), 0)?;
+    plays(rt, &mut store, steps);
+    Ok(())
+}
+
+// The same under both hashers.
 pub(crate) fn both<R: Abort + AllocGlobal>(
     rt: &R,
     slots: usize,
     units: usize,
     steps: &[(Call, Answer)],
 ) -> Result<(), Fail> {
-    let mut rotating = Store::<Rotating>::new(rt.alloc(), slots, units, Slot::default(), 0)?;
-    plays(rt, &mut rotating, steps);
-    let mut fnv1a = Store::<Fnv1a>::new(rt.alloc(), slots, units, Slot::default(), 0)?;
-    plays(rt, &mut fnv1a, steps);
-    Ok(())
+    history::<Rotating, R>(rt, slots, units, steps)?;
+    history::<Fnv1a, R>(rt, slots, units, steps)
 }

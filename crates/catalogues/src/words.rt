@@ -25,10 +25,11 @@ pub enum Answer {
     Counts(usize, usize),
     // the entry has that run, and its hash, and is of this class
     Class(usize),
-    // it has another run or another hash
+    // it has another run or another hash; or the model has no memory, or the call is none of its
     Other,
+    // Kept: numbers here and below. The values of the tests are the numbers that are listed, and the fault that has one is
+    // another type for each call.
     // the fault's number, or 0, where the class, the hash and the run are asked for
     Told(u8, u8, u8),
-    // Kept: numbers, since they are what the tests hold against those that are listed.
     Refused(u8),
 }

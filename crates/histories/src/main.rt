@@ -19,8 +19,9 @@ use std::alloc::{AllocError, Global};
 use std::io;
 use std::io::Read;
 
-// Kept: the four programs of cases begin alike. One function for them would take closures, and have to ask that these can
-// be called, which no public function here asks.
+// Kept: the four programs of cases begin alike, by reading all of the input, and go on with other readers and other answers.
+// One function for all would want a closure, of which it has to ask that it can be called, or a trait with a type for each
+// program: either is longer than the two lines that they share.
 fn main(rt: HostRuntime) -> io::Result<()> {
     let mut bytes = Vec::new(rt.alloc());
     rt.stdin().read_to_end(&mut bytes)?;

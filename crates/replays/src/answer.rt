@@ -18,9 +18,7 @@ pub enum Answer<U, F> {
 impl<U: fmt::Display, F: Numbered> fmt::Display for Answer<U, F> {
     fn fmt<W: fmt::Write>(&self, f: &mut fmt::Formatter<W>) -> fmt::Result {
         match self {
-            Answer::Enter(Ok(entered)) => {
-                let number = entered.number;
-                let class = entered.class;
+            Answer::Enter(Ok(Entered { number, class })) => {
                 write!(f, "entry {number} class {class}")
             }
             Answer::Find(Ok(Some(number))) => write!(f, "found {number}"),

@@ -16,6 +16,7 @@ use scripts::call::Call;
 use std::alloc::{AllocError, Global};
 
 /// The answer of a call. It fails for want of memory for the copy of a run only, and leaves everything as it was then.
+// Kept: the record and its memory are no struct here, since they are lent to each call as the catalogue's own calls take them; `Store` has them together.
 pub fn perform<K: Kind, H: Hasher>(
     heap: Global,
     cat: &mut Catalogue<H>,
@@ -41,6 +42,7 @@ pub fn perform<K: Kind, H: Hasher>(
 }
 
 // The units of an entry are copied, since a later call may use their memory again.
+// Kept: arm by arm, since a Result has no call that turns two of them inside out, and by closures it is longer.
 fn copied_run<H, U: Copy>(
     heap: Global,
     cat: &Catalogue<H>,

@@ -8,8 +8,8 @@ use Rattle.catalogues.specs.Naive.{runs_of}
 use Rattle.catalogues.proofs.Runs.{length-row}
 use Rattle.catalogues.proofs.model.Model.enter.Goals as goal
 
-pub returns-in-Some : goal.returns-in-Some
-returns-in-Some c _ = (Input c.in-Some.met, c.number.ensures, ((c.in-Some.ensures.first, refl), (refl, refl)))
+pub returns-in-Err : goal.returns-in-Err
+returns-in-Err c _ = (Input c.in-Err.fault, c.number.ensures, ((c.in-Err.ensures.first, refl), (refl, refl)))
 
 pub returns-then-is_err : goal.returns-then-is_err
 returns-then-is_err c modest =

@@ -1,5 +1,5 @@
 use Rattle.std.proofs.Common.{refl}
 use Rattle.catalogues.proofs.model.Model.find.Goals as goal
 
-pub returns-in-Some : goal.returns-in-Some
-returns-in-Some c = (c.in-Some.met, c.number.ensures, ((c.in-Some.ensures.first, refl), (refl, refl)))
+pub returns-in-Err : goal.returns-in-Err
+returns-in-Err c = (c.in-Err.fault, c.number.ensures, ((c.in-Err.ensures.first, refl), (refl, refl)))
