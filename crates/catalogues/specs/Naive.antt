@@ -1,5 +1,5 @@
 -- Names, the runs that stand in the naive model, and what it answers. Assumes nothing.
-use Rattle.std.specs.Prelude.{◌≡◌, ℕ, ◌+◌, ◌^◌, ◌<◌, ◌≤◌, List, length, map, vec_len, vec_capacity, Ok, Err}
+use Rattle.std.specs.Prelude.{◌≡◌, ℕ, ◌+◌, ◌^◌, ◌<◌, ◌≤◌, List, length, map, vec_len, vec_capacity, Ok, Err, Result}
 use Rattle.catalogue.specs.Calls.{EnterGranted}
 use Rattle.catalogue.specs.declared.fault.Fault.{Fault}
 use Rattle.catalogue.specs.declared.fault.NotStanding.{NotStanding}
@@ -9,6 +9,7 @@ use Rattle.catalogue.specs.Model.{Event, entering, finding, cutting, total, Answ
 use Rattle.kinds.specs.Names.{meets_name}
 use Rattle.kinds.specs.Numbers.{name_number}
 use Rattle.kinds.specs.declared.names.NameFault.{NameFault}
+use Rattle.std.specs.declared.alloc.AllocError.{AllocError}
 use Rattle.catalogues.specs.declared.model.Model.{Model}
 use Rattle.catalogues.specs.declared.words.Answer.{Answer}
 use Rattle.catalogues.specs.declared.words.Call.{Call}
@@ -37,12 +38,12 @@ abbrev pub Answered : Model → Event ℕ NameFault → Model → Type 0
 Answered m e t = Answers names m.slots m.units (runs_of m) e (runs_of t) × SameRoom m t
 
 -- the answers of the model are those of a catalogue; but where its own vector is full it may have no memory for a run that is to be entered
-abbrev pub EnterAnswered : Model → List ℕ → Answer → Model → Type 0
-EnterAnswered m run (Entered n c) t = Answered m (entering run (Ok (record { number = n; class = c }))) t
-EnterAnswered m run (Refused n) t = (f : Fault NameFault) × (n ≡ number_of name_number f) × Answered m (entering run (Err f)) t
-EnterAnswered m run Other t = EnterGranted names m.slots m.units (length (runs_of m)) (total (runs_of m)) run
+abbrev pub EnterAnswered : Model → List ℕ → Result Answer AllocError → Model → Type 0
+EnterAnswered m run (Ok (Entered n c)) t = Answered m (entering run (Ok (record { number = n; class = c }))) t
+EnterAnswered m run (Ok (Refused n)) t = (f : Fault NameFault) × (n ≡ number_of name_number f) × Answered m (entering run (Err f)) t
+EnterAnswered m run (Ok _) t = ⊥
+EnterAnswered m run (Err _) t = EnterGranted names m.slots m.units (length (runs_of m)) (total (runs_of m)) run
     × (vec_capacity m.runs ≤ vec_len m.runs) × (runs_of t ≡ runs_of m) × SameRoom m t
-EnterAnswered m run _ t = ⊥
 
 abbrev pub FindAnswered : Model → List ℕ → Answer → Type 0
 FindAnswered m run (Found o) = Answered m (finding run (Ok o)) m
@@ -55,8 +56,9 @@ CutAnswered m keep (Refused n) t = (f : NotStanding) × (n ≡ not_standing_numb
 CutAnswered m keep _ t = ⊥
 
 -- the other calls are not the model's to answer
-abbrev pub CallAnswered : Model → Call → Answer → Model → Type 0
-CallAnswered m (Enter run) a t = Modest m → EnterAnswered m run.now a t
-CallAnswered m (Find run) a t = FindAnswered m run.now a × (t ≡ m)
-CallAnswered m (ToCut keep) a t = CutAnswered m keep a t
-CallAnswered m _ a t = (a ≡ Other) × (t ≡ m)
+abbrev pub CallAnswered : Model → Call → Result Answer AllocError → Model → Type 0
+CallAnswered m (Enter run) r t = Modest m → EnterAnswered m run.now r t
+CallAnswered m (Find run) (Ok a) t = FindAnswered m run.now a × (t ≡ m)
+CallAnswered m (ToCut keep) (Ok a) t = CutAnswered m keep a t
+CallAnswered m _ (Ok a) t = (a ≡ Other) × (t ≡ m)
+CallAnswered m _ (Err _) t = ⊥

@@ -23,7 +23,11 @@ fn agrees<H: Hasher>(rt: &impl Abort, store: &Store<H>, model: &Model) {
     }
 }
 
-pub(crate) fn follows<H: Hasher, R: Abort + AllocGlobal>(rt: &R, store: &mut Store<H>, seed: u64) {
+pub(crate) fn follows<H: Hasher, R: Abort + AllocGlobal>(
+    rt: &R,
+    store: &mut Store<H>,
+    seed: u64,
+) -> Result<(), Fail> {
     let mut picks = Picks { state: seed };
     let mut model = Model {
         runs: Vec::new(rt.alloc()),
@@ -32,9 +36,10 @@ pub(crate) fn follows<H: Hasher, R: Abort + AllocGlobal>(rt: &R, store: &mut Sto
     };
     for _ in 0..300 {
         let call = picks.call();
-        assert_eq!(rt; store.answer(call), model.answer(call));
+        assert_eq!(rt; store.answer(call), model.answer(call)?);
         agrees(rt, store, &model);
     }
+    Ok(())
 }
 
 fn history<H: Hasher, R: Abort + AllocGlobal>(
@@ -44,8 +49,7 @@ fn history<H: Hasher, R: Abort + AllocGlobal>(
     units: usize,
 ) -> Result<(), Fail> {
     let mut store = Store::<H>::new(rt.alloc(), slots, units, Slot::default(), 0)?;
-    follows(rt, &mut store, seed);
-    Ok(())
+    follows(rt, &mut store, seed)
 }
 
 fn same_history<R: Abort + AllocGlobal>(

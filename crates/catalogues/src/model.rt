@@ -10,6 +10,7 @@ ghost use Rattle.kinds.specs.Numbers.{name_number};
 use crate::words::{Answer, Call};
 use catalogue::fault::Numbered;
 use kinds::names::NameFault;
+use std::alloc::AllocError;
 
 /// The runs that stand, and how many slots and units there are.
 #[derive(Drop)]
@@ -20,34 +21,33 @@ pub struct Model {
 }
 
 impl Model {
-    pub fn answer(&mut self, call: Call) -> Answer
+    /// It fails for want of memory for a run that is to be entered only.
+    pub fn answer(&mut self, call: Call) -> Result<Answer, AllocError>
         ensures { CallAnswered self.old call result self.new }
     {
         match call {
             Call::Enter(run) => self.enter(run),
-            Call::Find(run) => self.find(run),
-            Call::Cut(keep) => self.cut(keep),
-            _ => Answer::Other,
+            Call::Find(run) => Ok(self.find(run)),
+            Call::Cut(keep) => Ok(self.cut(keep)),
+            _ => Ok(Answer::Other),
         }
     }
 
-    fn enter(&mut self, run: &'static [u8]) -> Answer
+    fn enter(&mut self, run: &'static [u8]) -> Result<Answer, AllocError>
         ensures { Modest self.old → EnterAnswered self.old run.now result self.new }
     {
         let number = self.runs.len();
         if let Err(fault) = tested(run) {
-            return Answer::Refused(fault.number());
+            return Ok(Answer::Refused(fault.number()));
         }
         if number >= self.slots {
-            return Answer::Refused(20);
+            return Ok(Answer::Refused(20));
         }
         if self.used().saturating_add(run.len()) > self.units {
-            return Answer::Refused(21);
+            return Ok(Answer::Refused(21));
         }
-        if self.runs.push(run).is_err() {
-            return Answer::Other;
-        }
-        Answer::Entered(number, self.class(run))
+        self.runs.push(run)?;
+        Ok(Answer::Entered(number, self.class(run)))
     }
 
     fn find(&self, run: &'static [u8]) -> Answer

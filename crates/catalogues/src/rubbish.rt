@@ -35,8 +35,7 @@ fn plausible<H: Hasher>(start: usize) -> Slot {
 
 fn filled<H: Hasher, R: Abort + AllocGlobal>(rt: &R, slot: Slot, unit: u8) -> Result<(), Fail> {
     let mut store = Store::<H>::new(rt.alloc(), 12, 80, slot, unit)?;
-    follows(rt, &mut store, 5);
-    Ok(())
+    follows(rt, &mut store, 5)
 }
 
 fn each_filling<H: Hasher, R: Abort + AllocGlobal>(rt: &R) -> Result<(), Fail> {

@@ -25,7 +25,7 @@ pub enum Answer {
     Counts(usize, usize),
     // the entry has that run, and its hash, and is of this class
     Class(usize),
-    // it has another run or another hash; or the model has no memory, or the call is none of its
+    // it has another run or another hash; or the call is none of the model's
     Other,
     // Kept: numbers here and below. The values of the tests are the numbers that are listed, and the fault that has one is
     // another type for each call.

@@ -11,9 +11,9 @@ fn binding(x: u32) -> [u32; 9] {
 #[test]
 fn a_table_of_2047_words_is_too_short(rt: HostRuntime) -> Result<(), Fail> {
     let mut pairs = [7u32; 2047];
-    let Err(fault) = compare(&binding(0), &binding(1), &mut pairs) else {
-        return Err(Fail::new("compared"));
-    };
+    let fault = compare(&binding(0), &binding(1), &mut pairs)
+        .err()
+        .ok_or("compared")?;
     assert_eq!(rt; fault.number(), 23);
     assert_eq!(rt; pairs[0], 7);
     assert_eq!(rt; pairs[2046], 7);
@@ -23,9 +23,9 @@ fn a_table_of_2047_words_is_too_short(rt: HostRuntime) -> Result<(), Fail> {
 #[test]
 fn a_longer_table_keeps_its_tail(rt: HostRuntime) -> Result<(), Fail> {
     let mut pairs = [7u32; 3000];
-    let Ok(same) = compare(&binding(3), &binding(5), &mut pairs) else {
-        return Err(Fail::new("refused"));
-    };
+    let same = compare(&binding(3), &binding(5), &mut pairs)
+        .ok()
+        .ok_or("refused")?;
     assert!(rt; same);
     assert_eq!(rt; pairs[3], 5);
     assert_eq!(rt; pairs[1024 + 5], 3);
@@ -39,9 +39,9 @@ fn a_longer_table_keeps_its_tail(rt: HostRuntime) -> Result<(), Fail> {
 #[test]
 fn different_rules_leave_no_partner(rt: HostRuntime) -> Result<(), Fail> {
     let mut pairs = [7u32; 2048];
-    let Ok(same) = compare(&binding(3), &[40, 0, 0, 0], &mut pairs) else {
-        return Err(Fail::new("refused"));
-    };
+    let same = compare(&binding(3), &[40, 0, 0, 0], &mut pairs)
+        .ok()
+        .ok_or("refused")?;
     assert!(rt; !same);
     assert_eq!(rt; pairs[3], NONE);
     assert_eq!(rt; pairs[2047], NONE);

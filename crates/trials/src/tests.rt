@@ -6,9 +6,7 @@ use std::test::Fail;
 #[test]
 fn the_expression_one_is_accepted(rt: HostRuntime) -> Result<(), Fail> {
     let words = [100, 1, 0, 0, 25, 0, 0, 1, 0];
-    let Ok(nodes) = intake(&words) else {
-        return Err(Fail::new("refused"));
-    };
+    let nodes = intake(&words)?;
     assert_eq!(rt; nodes.places(), [0, 4].as_slice());
     Ok(())
 }
