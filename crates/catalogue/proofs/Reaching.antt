@@ -5,7 +5,8 @@ use Rattle.catalogue.specs.Calls.{EnterRefused}
 use Rattle.catalogue.specs.Kinds.{Sense}
 use Rattle.catalogue.specs.Model.{Event, entering, finding, cutting, Answers, Stands}
 use Rattle.catalogue.specs.Promise.{Step, Reached}
-use Rattle.catalogue.specs.States.{Numbers, State, state_of}
+use Rattle.catalogue.specs.States.{State, state}
+use Rattle.catalogue.specs.Numbers.{Numbers}
 use Rattle.catalogue.proofs.Cutting.{cut-stored}
 use Rattle.catalogue.proofs.Entering.{entered-answers, entered-stored, slots-long, units-long}
 use Rattle.catalogue.proofs.Lawful.{Lawful}
@@ -13,8 +14,8 @@ use Rattle.catalogue.proofs.Stored.{Stored, intact, first-same}
 
 same-state : {U : Type 0} (s t : State U) → s.numbers ≡ t.numbers → s.slots ≡ t.slots → s.units ≡ t.units → s ≡ t
 same-state s t a b c =
-    ap (λ (x : Numbers). state_of x s.slots s.units) a ∙ ap (λ (x : List Slot). state_of t.numbers x s.units) b
-    ∙ ap (λ (x : List _). state_of t.numbers t.slots x) c
+    ap (λ (x : Numbers). state x s.slots s.units) a ∙ ap (λ (x : List Slot). state t.numbers x s.units) b
+    ∙ ap (λ (x : List _). state t.numbers t.slots x) c
 
 -- what stands after a call, with the right answer
 pub record After {U F : Type 0} (k : Sense U F) (s : State U) (rs : List (List U)) (e : Event U F) (t : State U) : Type 0 where

@@ -8,7 +8,8 @@ use Rattle.catalogue.specs.declared.fault.NotStanding.{NotStanding}
 use Rattle.catalogue.specs.declared.record.Entered.{Entered}
 use Rattle.catalogue.specs.declared.record.Slot.{Slot}
 use Rattle.catalogue.specs.Kinds.{Sense, Sound, FirstMet}
-use Rattle.catalogue.specs.States.{Numbers, State, Intact, FirstAt, Within, run_of, slot_at}
+use Rattle.catalogue.specs.States.{State, Intact, FirstAt, Within, run_of, slot_at}
+use Rattle.catalogue.specs.Numbers.{Numbers}
 
 ---- enter
 

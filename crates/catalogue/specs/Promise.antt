@@ -2,7 +2,8 @@
 use Rattle.std.specs.Prelude.{◌≡◌, ℕ, ◌<◌, ◌≤◌, List, [], ◌∷◌, length}
 use Rattle.catalogue.specs.Kinds.{Sense, Sound}
 use Rattle.catalogue.specs.Classes.{entry, ClassOf, Begun, Choice}
-use Rattle.catalogue.specs.States.{State, nothing, slot_at, run_at, class_at}
+use Rattle.catalogue.specs.States.{State, slot_at, run_at, class_at}
+use Rattle.catalogue.specs.Numbers.{nothing}
 use Rattle.catalogue.specs.Calls.{EnterDone, FindDone, CutDone}
 use Rattle.catalogue.specs.Model.{Event, entering, finding, cutting, calls, Stands}
 

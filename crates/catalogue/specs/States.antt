@@ -1,33 +1,18 @@
 -- What stands in the record of a catalogue and in the memory that is handed with it. Assumes nothing.
 use Rattle.std.specs.Prelude.{◌≡◌, ℕ, ◌+◌, ◌<◌, ◌≤◌, List, length, take, drop, Option, Some, None, slice_index_or}
 use Rattle.std.specs.Borrow.{Bor}
-use Rattle.catalogue.specs.declared.record.Catalogue.{Catalogue}
 use Rattle.catalogue.specs.declared.record.Slot.{Slot}
+use Rattle.catalogue.specs.Numbers.{Numbers}
 use Rattle.catalogue.specs.Classes.{First}
 use Rattle.catalogue.specs.Kinds.{Sense, Sound}
-
--- how many entries stand, how many units they have, and how many classes
-pub record Numbers : Type 0 where
-  pub standing : ℕ
-  pub used : ℕ
-  pub classes : ℕ
-
-abbrev pub nothing : Numbers
-nothing = record { standing = 0; used = 0; classes = 0 }
-
-abbrev pub numbers_of : {H : Type 0} → Catalogue H → Numbers
-numbers_of c = record { standing = c.standing; used = c.used; classes = c.classes }
 
 pub record State (U : Type 0) : Type 0 where
   pub numbers : Numbers
   pub slots : List Slot
   pub units : List U
 
-abbrev pub state_of : {U : Type 0} → Numbers → List Slot → List U → State U
-state_of a slots units = record { numbers = a; slots = slots; units = units }
-
-abbrev pub state : {H U : Type 0} → Catalogue H → List Slot → List U → State U
-state c slots units = state_of (numbers_of c) slots units
+abbrev pub state : {U : Type 0} → Numbers → List Slot → List U → State U
+state a slots units = record { numbers = a; slots = slots; units = units }
 
 ---- the entry that a slot tells of
 

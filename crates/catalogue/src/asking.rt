@@ -3,7 +3,7 @@ ghost use Rattle.std.specs.Prelude.{◌≡◌, ℕ};
 ghost use Rattle.catalogue.specs.Calls.{PartDone, RunDone};
 ghost use Rattle.catalogue.specs.Kinds.{sense};
 ghost use Rattle.catalogue.specs.Promise.{Promised};
-ghost use Rattle.catalogue.specs.States.{numbers_of, state};
+ghost use Rattle.catalogue.specs.States.{state};
 ghost use Rattle.hashing.specs.Words.{hash_by};
 
 use crate::fault::NotStanding;
@@ -35,14 +35,14 @@ pub fn standing<H>(cat: &Catalogue<H>) -> usize
 /// The class of an entry.
 // Kept: beside `hash_of`, one expression each: what the two share is `slot_of`.
 pub fn class_of<H>(cat: &Catalogue<H>, slots: &[Slot], number: usize) -> Result<usize, NotStanding>
-    ensures { PartDone (numbers_of cat.now) slots.now number (λ s. s.class) result }
+    ensures { PartDone cat.now slots.now number (λ s. s.class) result }
 {
     Ok(slot_of(cat, slots, number)?.class)
 }
 
 /// The hash of an entry.
 pub fn hash_of<H>(cat: &Catalogue<H>, slots: &[Slot], number: usize) -> Result<u64, NotStanding>
-    ensures { PartDone (numbers_of cat.now) slots.now number (λ s. s.hash) result }
+    ensures { PartDone cat.now slots.now number (λ s. s.hash) result }
 {
     Ok(slot_of(cat, slots, number)?.hash)
 }
@@ -54,13 +54,13 @@ pub fn run_of<'a, H, U>(
     units: &'a [U],
     number: usize,
 ) -> Result<&'a [U], NotStanding>
-    ensures { RunDone (numbers_of cat.now) slots.now units.now number result }
+    ensures { RunDone cat.now slots.now units.now number result }
 {
     slot_of(cat, slots, number)?.run(units).ok_or(NotStanding)
 }
 
 fn slot_of<H>(cat: &Catalogue<H>, slots: &[Slot], number: usize) -> Result<Slot, NotStanding>
-    ensures { PartDone (numbers_of cat.now) slots.now number (λ s. s) result }
+    ensures { PartDone cat.now slots.now number (λ s. s) result }
 {
     if number >= cat.standing {
         return Err(NotStanding);

@@ -1,7 +1,8 @@
 // The calls that alter a catalogue, or search it.
 ghost use Rattle.catalogue.specs.Calls.{CutDone, EnterDone, FindDone};
 ghost use Rattle.catalogue.specs.Kinds.{sense};
-ghost use Rattle.catalogue.specs.States.{nothing, numbers_of, slot_at, state};
+ghost use Rattle.catalogue.specs.Numbers.{nothing};
+ghost use Rattle.catalogue.specs.States.{slot_at, state};
 ghost use Rattle.hashing.specs.Words.{hash_by};
 ghost use Rattle.std.specs.Prelude.{◌≡◌, ◌+◌, ◌<◌, ◌≤◌, MatchOption};
 
@@ -15,7 +16,7 @@ use std::marker::PhantomData;
 impl<H> Catalogue<H> {
     /// Nothing stands.
     pub fn new() -> Catalogue<H>
-        ensures { numbers_of result ≡ nothing }
+        ensures { result ≡ nothing }
     {
         Catalogue {
             standing: 0,
@@ -83,7 +84,7 @@ pub fn find<K: Kind, H: Hasher>(
 
 /// Keeps the first `keep` entries. The memory behind them is used again.
 pub fn cut<H>(cat: &mut Catalogue<H>, slots: &[Slot], keep: usize) -> Result<(), NotStanding>
-    ensures { CutDone (numbers_of cat.old) slots.now keep result (numbers_of cat.new) }
+    ensures { CutDone cat.old slots.now keep result cat.new }
 {
     if keep > cat.standing {
         return Err(NotStanding);

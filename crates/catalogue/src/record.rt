@@ -1,7 +1,5 @@
 // What the calls keep: a record of three numbers, and the slots and units that the caller hands to each call.
-ghost use Rattle.std.specs.Prelude.{◌≤◌};
-
-use std::marker::PhantomData;
+use std::marker::{Model, PhantomData};
 
 /// The most entries that can stand.
 pub const MOST_ENTRIES: usize = 65536;
@@ -38,8 +36,18 @@ pub struct Catalogue<H> {
     pub(crate) used: usize,
     pub(crate) classes: usize,
     pub(crate) hasher: PhantomData<H>,
-    ghost few: { classes ≤ standing },
-    ghost most: { standing ≤ 65536 },
+}
+
+// Contracts see the three numbers, whatever the hasher.
+impl<H> Model for Catalogue<H> {
+    ghost use Rattle.std.specs.Prelude.{◌≤◌};
+    ghost use Rattle.catalogue.specs.Numbers.{Numbers};
+
+    ghost Value = { Numbers };
+
+    ghost view = { λ c. record { standing = c.standing; used = c.used; classes = c.classes } };
+
+    ghost invariant = { λ c. (c.classes ≤ c.standing) × (c.standing ≤ 65536) };
 }
 
 /// The number of an entry, and its class.

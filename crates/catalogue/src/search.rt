@@ -1,7 +1,8 @@
 // The first standing entry that is the same as a run.
 ghost use Rattle.std.specs.Prelude.{◌≡◌, ℕ, ◌<◌, List, ◌↔◌, length, IfSome, IsTrue};
 ghost use Rattle.catalogue.specs.Kinds.{SoundBy, sense};
-ghost use Rattle.catalogue.specs.States.{FirstAt, Intact, Numbers, Within, run_of, state_of};
+ghost use Rattle.catalogue.specs.States.{FirstAt, Intact, Within, run_of, state};
+ghost use Rattle.catalogue.specs.Numbers.{Numbers};
 
 use crate::kind::Kind;
 use crate::record::Slot;
@@ -27,10 +28,10 @@ pub(crate) fn first_same<K: Kind>(
 ) -> Option<usize>
     ensures inside { IfSome result (λ i. i < length slots.now) }
     ensures first { (f : List ℕ → ℕ) (a : Numbers) → a.standing ≡ standing
-        → Intact (sense K.meets K.same K.feed K.Fault.number kind.now f) (state_of a slots.now units.now)
+        → Intact (sense K.meets K.same K.feed K.Fault.number kind.now f) (state a slots.now units.now)
         → SoundBy (K.meets kind.now) run.now
         → hash ≡ f (K.feed kind.now f run.now)
-        → FirstAt (sense K.meets K.same K.feed K.Fault.number kind.now f) (state_of a slots.now units.now) run.now result }
+        → FirstAt (sense K.meets K.same K.feed K.Fault.number kind.now f) (state a slots.now units.now) run.now result }
 {
     slots.iter().take(standing).position(|slot| slot.hash == hash
         && same_at(kind, *slot, units, run))

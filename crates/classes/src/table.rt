@@ -1,5 +1,6 @@
 // Enters each rule of a table into a catalogue.
-ghost use Rattle.catalogue.specs.States.{nothing, numbers_of, state};
+ghost use Rattle.catalogue.specs.Numbers.{nothing};
+ghost use Rattle.catalogue.specs.States.{state};
 ghost use Rattle.classes.specs.Tables.{Classed, EntersAll};
 ghost use Rattle.hashing.specs.Words.{hash_by};
 ghost use Rattle.std.specs.Prelude.{◌≡◌, IfOk};
@@ -47,7 +48,7 @@ fn enter_rules<H: Hasher>(
     slots: &mut [Slot],
     units: &mut [u32],
 ) -> Result<Vec<Result<Entered, Fault<RuleFault>>>, AllocError>
-    requires { numbers_of cat.old ≡ nothing }
+    requires { cat.old ≡ nothing }
     ensures { IfOk result (λ answers. EntersAll (hash_by H.Hasher) entries.now answers.items (state cat.new slots.new units.new)) }
 {
     let mut answers = Vec::new(heap);

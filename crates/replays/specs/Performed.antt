@@ -6,7 +6,8 @@ use Rattle.catalogue.specs.declared.record.Entered.{Entered}
 use Rattle.catalogue.specs.declared.record.Slot.{Slot}
 use Rattle.catalogue.specs.Calls.{EnterDone, FindDone, CutDone, PartDone, RunThere}
 use Rattle.catalogue.specs.Kinds.{Sense}
-use Rattle.catalogue.specs.States.{Numbers, State, run_of, slot_at}
+use Rattle.catalogue.specs.Numbers.{Numbers}
+use Rattle.catalogue.specs.States.{State, run_of, slot_at}
 use Rattle.scripts.specs.declared.call.Call.{Call}
 use Rattle.scripts.specs.declared.call.Call.TheVariants as calls
 use Rattle.replays.specs.declared.answer.Answer.{Answer}

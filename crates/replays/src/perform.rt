@@ -1,6 +1,6 @@
 // One call, performed.
 ghost use Rattle.catalogue.specs.Kinds.{sense};
-ghost use Rattle.catalogue.specs.States.{numbers_of, state};
+ghost use Rattle.catalogue.specs.States.{state};
 ghost use Rattle.hashing.specs.Words.{hash_by};
 ghost use Rattle.replays.specs.Performed.{Performed, RunCopied};
 ghost use Rattle.std.specs.Prelude.{◌≡◌, IfOk, OnErr};
@@ -50,7 +50,7 @@ fn copied_run<H, U: Copy>(
     units: &[U],
     number: usize,
 ) -> Result<Result<Vec<U>, NotStanding>, AllocError>
-    ensures { IfOk result (RunCopied (numbers_of cat.now) slots.now units.now number) }
+    ensures { IfOk result (RunCopied cat.now slots.now units.now number) }
 {
     match run_of(cat, slots, units, number) {
         Ok(run) => Ok(Ok(Vec::from_slice(heap, run)?)),

@@ -1,6 +1,7 @@
 // A catalogue with memory of its own.
 ghost use Rattle.catalogue.specs.Kinds.{sense};
-ghost use Rattle.catalogue.specs.States.{nothing, numbers_of, state};
+ghost use Rattle.catalogue.specs.Numbers.{nothing};
+ghost use Rattle.catalogue.specs.States.{state};
 ghost use Rattle.hashing.specs.Words.{hash_by};
 ghost use Rattle.replays.specs.Performed.{Performed};
 ghost use Rattle.std.specs.Prelude.{◌≡◌, IfOk, OnErr, vec_len};
@@ -35,7 +36,7 @@ impl<K: Kind, H: Hasher> Store<K, H> {
     where
         K: Drop,
         ensures kind { IfOk result (λ s. s.kind ≡ kind) }
-        ensures empty { IfOk result (λ s. numbers_of s.cat ≡ nothing) }
+        ensures empty { IfOk result (λ s. s.cat ≡ nothing) }
         ensures slots { IfOk result (λ s. vec_len s.slots ≡ slots) }
         ensures units { IfOk result (λ s. vec_len s.units ≡ units) }
     {

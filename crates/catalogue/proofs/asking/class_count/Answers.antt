@@ -1,6 +1,5 @@
 use Rattle.std.proofs.Common.{refl}
 use Rattle.hashing.specs.Words.{hash_by}
-use Rattle.catalogue.specs.States.{state}
 use Rattle.catalogue.proofs.Promised.{promised}
 use Rattle.catalogue.proofs.asking.class_count.Goals as goal
 
@@ -9,10 +8,11 @@ returns g c =
     let m = g.K.Kind in
     let met = g.met.K.Kind in
     let v = c.args.kind.now in
+    rw (← c.cat.view_is)
     record {
       count = refl;
       promise = λ h past. promised m.meets m.same m.feed g.K.Fault.Numbered.number met.one_fault v
           (λ f. record { reflexive = met.reflexive v; symmetric = met.symmetric v; transitive = met.transitive v })
           (hash_by g.H.Hasher) h
-          (state c.args.cat.now c.args.slots.now c.args.units.now) past;
+          _ past;
     }
