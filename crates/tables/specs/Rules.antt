@@ -1,9 +1,8 @@
 -- The rules that a whole table holds. Assumes nothing.
 use Rattle.std.specs.Prelude.{◌≡◌, ℕ, ◌+◌, ◌<◌, false, cond, ◌⊎◌, List, [], ◌∷◌, ◌++◌, length, get_or, take, IfErr, Option, Some, None, Ok, Err, vec_items, string_bytes, IsUtf8, MatchBool, Result, Vec, String, ◌==◌, ◌≢◌, slice_index_or}
 use Rattle.std.specs.Borrow.{Bor}
-use Rattle.std.specs.BTreeMap.{get_by_text, IsOrdered}
+use Rattle.std.specs.BTreeMap.{get_by_text}
 use Rattle.std.specs.Str.{IsValidUpTo, bytes_eq}
-use Rattle.std.specs.String.{string_cmp}
 use Rattle.std.specs.BTreeMap.{BTreeMap}
 use Rattle.tables.specs.declared.fault.BadUtf8.{BadUtf8}
 use Rattle.tables.specs.declared.fault.TableFault.{TableFault}
@@ -88,9 +87,9 @@ module _ {Y : Type 0} where
   NameFault m e (NotUtf8 k) = ⊥
   NameFault m e Memory = Unit {0}
 
-  -- n has w at the name bs, and at each other name what m has; its names are in order
+  -- n has w at the name bs, and at each other name what m has
   abbrev pub SetsText : BTreeMap (String Y) ℕ → BTreeMap (String Y) ℕ → List ℕ → Option ℕ → Type 0
-  SetsText m n bs w = IsOrdered string_cmp n × ((v : List ℕ) → get_by_text n v ≡ cond (bytes_eq v bs) w (get_by_text m v))
+  SetsText m n bs w = (v : List ℕ) → get_by_text n v ≡ cond (bytes_eq v bs) w (get_by_text m v)
 
   -- what it answers to note the line of e at its name in m, which is n then
   abbrev pub NotedAs : {U : Type 0} → BTreeMap (String Y) ℕ → BTreeMap (String Y) ℕ → Entry → Result U TableFault → Type 0
