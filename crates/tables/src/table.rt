@@ -3,7 +3,7 @@ ghost use Rattle.std.specs.Prelude.{◌≡◌, ◌≤◌, length, take, IsUtf8};
 ghost use Rattle.tables.specs.Rules.{lines, BytesAs, KeepsTables, NotedAs, TableAs, TextAs};
 
 use crate::fault::{BadUtf8, TableFault, shown};
-use crate::line::{Entry, read_line};
+use crate::line::{Entry, Line, read_line};
 use std::alloc::Global;
 use std::collections::BTreeMap;
 use std::str::from_utf8;
@@ -41,7 +41,11 @@ pub fn read_table(heap: Global, text: &str) -> Result<Vec<Entry>, TableFault>
     let mut entries = Vec::new(heap);
     let mut seen = BTreeMap::new(heap);
     for (i, row) in text.split('\n').enumerate() {
-        if let Some(entry) = read_line(heap, row, i + 1)? {
+        let line = Line {
+            heap,
+            number: i + 1,
+        };
+        if let Some(entry) = read_line(line, row)? {
             note_name(heap, &mut seen, &entry)?;
             entries.push(entry)?;
         }
