@@ -11,7 +11,7 @@ use Rattle.std.proofs.lemmas.List.{get_or_append_left, get_or_push, length_push}
 use Rattle.std.proofs.lemmas.Option.{none-some}
 use Rattle.std.proofs.lemmas.Bool.{cases_lt, cases_Bool, cond-true, cond-false, false_from_ne_true}
 use Rattle.tables.specs.declared.fault.TableFault.{TableFault}
-use Rattle.tables.specs.declared.fault.TableFault.TheVariants.{NoColon, NoName, NameTwice, NotANumber, TooLarge, NotUtf8, Memory}
+use Rattle.tables.specs.declared.fault.TableFault.TheVariants.{NoColon, NoName, NameTwice, NotAWord, NotUtf8, Memory}
 use Rattle.tables.specs.declared.line.Entry.{Entry}
 use Rattle.tables.specs.Lines.{content, skipped, RuleAt, LineFault}
 use Rattle.tables.specs.Rules.{lines, name_of, Holds, Apart, Stands, FaultAfter, FaultIn, NameFault, SetsText}
@@ -193,8 +193,7 @@ module _ {Y : Type 0} where
     pub line-stops : (f : TableFault) → skipped (content l) ≡ false → LineFault (line + 1) (content l) f → (f ≡ Memory) ⊎ FaultIn text f
     line-stops (NoColon k) plain h = inr (fault-in (NoColon k) plain h)
     line-stops (NoName k) plain h = inr (fault-in (NoName k) plain h)
-    line-stops (NotANumber k found) plain h = inr (fault-in (NotANumber k found) plain h)
-    line-stops (TooLarge k found) plain h = inr (fault-in (TooLarge k found) plain h)
+    line-stops (NotAWord k found why) plain h = inr (fault-in (NotAWord k found why) plain h)
     line-stops (NameTwice k name before) plain h = absurd h
     line-stops (NotUtf8 k) plain h = absurd h
     line-stops Memory plain h = inl refl
@@ -202,8 +201,7 @@ module _ {Y : Type 0} where
     pub name-stops : (x : Entry) (f : TableFault) → skipped (content l) ≡ false → RuleAt (line + 1) (content l) x → NameFault m x f → (f ≡ Memory) ⊎ FaultIn text f
     name-stops x (NoColon k) plain rule h = absurd h
     name-stops x (NoName k) plain rule h = absurd h
-    name-stops x (NotANumber k found) plain rule h = absurd h
-    name-stops x (TooLarge k found) plain rule h = absurd h
+    name-stops x (NotAWord k found why) plain rule h = absurd h
     name-stops x (NameTwice k name before) plain rule h =
         inr (fault-in (NameTwice k name before) plain (h.0 ∙ rule.place, (x, rule, h.2, old.noted.from (name_of x) before h.1)))
     name-stops x (NotUtf8 k) plain rule h = absurd h

@@ -3,6 +3,7 @@ ghost use Rattle.std.specs.Prelude.{◌≡◌, IfOk, string_bytes};
 ghost use Rattle.tables.specs.Lines.{Shown, line_of};
 ghost use Rattle.tables.specs.declared.fault.TableFault.TheVariants.{Memory, NotUtf8};
 
+use crate::word::WordFault;
 use std::alloc::{AllocError, AllocFailed, Global};
 use std::fmt;
 
@@ -19,13 +20,10 @@ pub enum TableFault {
         name: String,
         before: usize,
     },
-    NotANumber {
+    NotAWord {
         line: usize,
         found: String,
-    },
-    TooLarge {
-        line: usize,
-        found: String,
+        fault: WordFault,
     },
     NotUtf8 {
         line: usize,
@@ -73,8 +71,7 @@ impl TableFault {
             TableFault::NoColon { line }
             | TableFault::NoName { line }
             | TableFault::NameTwice { line, .. }
-            | TableFault::NotANumber { line, .. }
-            | TableFault::TooLarge { line, .. }
+            | TableFault::NotAWord { line, .. }
             | TableFault::NotUtf8 { line } => Some(*line),
             TableFault::Memory => None,
         }
@@ -92,7 +89,7 @@ impl fmt::Display for TableFault {
                     "expected a new name, found {name:?}, which stands at line {before}"
                 )
             }
-            TableFault::NotANumber { found, .. } | TableFault::TooLarge { found, .. } => {
+            TableFault::NotAWord { found, .. } => {
                 write!(f, "expected a number from 0 to 4294967295, found {found:?}")
             }
             TableFault::NotUtf8 { .. } => f.write_str("expected UTF-8 text"),

@@ -45,10 +45,10 @@ impl Line {
         ensures { PieceFault self.number piece.now fault result }
     {
         let line = self.number;
-        shown(self.heap, piece).map_or(TableFault::Memory, |found| match fault {
-            WordFault::NotANumber => TableFault::NotANumber { line, found },
-            WordFault::TooLarge => TableFault::TooLarge { line, found },
-        })
+        shown(self.heap, piece).map_or(
+            TableFault::Memory,
+            |found| TableFault::NotAWord { line, found, fault },
+        )
     }
 }
 
