@@ -21,10 +21,14 @@ NumberTo bs q = (p : List ℕ) × First bs p q.1 × Writes p q.0 × (q.0 < 2 ^ 3
 abbrev pub UnitAt : ℕ → List ℕ → ℕ → Type 0
 UnitAt limit p k = Writes p k × (k < 2 ^ 32) × (k ≤ limit)
 
+-- no unit is above the limit
+abbrev pub UnitsUnder : ℕ → List ℕ → Type 0
+UnitsUnder limit us = (i : ℕ) → i < length us → slice_index us i ≤ limit
+
 -- the pieces of bs write the units us, none above the limit
 pub record Units (limit : ℕ) (bs us : List ℕ) : Type 0 where
   pub run : Run bs us
-  pub under : (i : ℕ) → i < length us → slice_index us i ≤ limit
+  pub under : UnitsUnder limit us
 
 -- the next piece of bs is the word for something, and what follows it
 abbrev pub WordTo : {V : Type 0} → (V → List ℕ) → List ℕ → V × List ℕ → Type 0

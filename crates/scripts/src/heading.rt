@@ -107,7 +107,7 @@ fn read_kind(line: Line, text: &str) -> Result<(Kind, &str), ScriptFault>
     read_named(line, rest)
 }
 
-// The hasher at the end of a heading, the word-wise one where none stands there.
+// The hasher at the end of a heading, the rotating one where none stands there.
 fn read_hasher(line: Line, text: &str) -> Result<HasherName, ScriptFault>
     ensures { Reads line.number (λ x. x) (HasherAs text.now) result }
 {

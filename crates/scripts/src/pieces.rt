@@ -1,7 +1,7 @@
 // The pieces of a line, one after the other.
 // Kept: a line and a text are two parameters, since what follows a piece is a text; were they one value, each contract
 // of what is read, and of what follows it, would also have to say that the line is the same.
-ghost use Rattle.std.specs.Prelude.{ℕ, true, [], ◌∷◌};
+ghost use Rattle.std.specs.Prelude.{true, [], ◌∷◌};
 ghost use Rattle.tables.specs.Pieces.{Blanks, Run};
 ghost use Rattle.scripts.specs.Parts.{NumberTo, PieceAs, PieceTo};
 ghost use Rattle.scripts.specs.Readings.{Reads};

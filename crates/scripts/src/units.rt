@@ -28,7 +28,7 @@ fn read_unit(line: Line, piece: &str, limit: u32) -> Result<u32, ScriptFault>
 }
 
 // What a unit is that may be as large as `limit`.
-// Kept: the limit is a number, since `read_call` takes any; the largest byte alone has a name of its own.
+// Kept: the limit is a number, since `read_call` is published and takes any; were it a kind, it would promise less.
 fn unit_up_to(limit: u32) -> Expected {
     if limit == u32::from(u8::MAX) {
         Expected::Byte

@@ -45,7 +45,8 @@ impl From<BadUtf8> for TableFault {
     }
 }
 
-// Kept: `?` asks for an impl for each error that it converts.
+// Kept: `?` asks for an impl for each error that it converts, here and for the fault of a script. One macro for both is
+// refused, since no impl may come of a macro of the repository, and the `From` that `thiserror` derives has no contract.
 impl From<AllocError> for TableFault {
     ghost from_gives = { λ _ r. r ≡ Memory };
 

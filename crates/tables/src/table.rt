@@ -40,6 +40,7 @@ pub fn read_table(heap: Global, text: &str) -> Result<Vec<Entry>, TableFault>
 {
     let mut entries = Vec::new(heap);
     let mut seen = BTreeMap::new(heap);
+    // Kept: `str::lines` gives no last empty line, and leaves the return of a last line that no line feed ends.
     for (i, row) in text.split('\n').enumerate() {
         let line = Line {
             heap,
