@@ -1,13 +1,7 @@
 -- The parts of a line. Assumes nothing.
-use Rattle.std.specs.Prelude.{◌≡◌, ℕ, ◌^◌, ◌<◌, ◌≤◌, true, List, length, Some, None, Ok, Err, Option, Result, ◌≢◌, slice_index}
-use Rattle.std.specs.Borrow.{Bor}
+use Rattle.std.specs.Prelude.{◌≡◌, ℕ, ◌^◌, ◌<◌, ◌≤◌, List, length, Ok, Err, Result, ◌≢◌, slice_index}
 use Rattle.tables.specs.Numerals.{Writes}
-use Rattle.tables.specs.Pieces.{Blanks, First, Run}
-
--- the next piece of bs and what follows it, or that bs has none
-abbrev pub PieceAs : List ℕ → Option (Bor (List ℕ) × Bor (List ℕ)) → Type 0
-PieceAs bs None = Blanks true bs
-PieceAs bs (Some q) = First bs q.0.now q.1.now
+use Rattle.tables.specs.Pieces.{First, Run}
 
 -- the next piece of bs, and what follows it
 abbrev pub PieceTo : List ℕ → List ℕ × List ℕ → Type 0
