@@ -4,10 +4,10 @@ use Rattle.std.proofs.lemmas.Bool.{both_ways}
 use Rattle.hashing.specs.Named.{spelling}
 use Rattle.hashing.specs.declared.named.HasherName.{HasherName}
 use Rattle.hashing.specs.declared.named.HasherName.TheVariants.{Rotating}
-use Rattle.tables.specs.Pieces.{Blanks}
+use Rattle.tables.specs.Pieces.{Blanks, NextPiece}
 use Rattle.tables.proofs.Sole.{no-piece}
 use Rattle.scripts.specs.Headings.{label_word, LabelTo, KindTo, LabelledTo, HasherNamed, HasherAs, AfterUnits, AfterSlots, AfterKind, HeadingAs}
-use Rattle.scripts.specs.Parts.{PieceAs, WordTo}
+use Rattle.scripts.specs.Parts.{WordTo}
 use Rattle.scripts.specs.Readings.{Sole, NoneIs, Reads}
 use Rattle.scripts.specs.declared.fault.ScriptFault.{ScriptFault}
 use Rattle.scripts.specs.declared.heading.Heading.{Heading}
@@ -26,16 +26,16 @@ pub named_more : (bs rest : List ℕ) (h : HasherName) → Sole (WordTo spelling
 named_more bs rest h one none = then-none (WordTo spelling bs) Ends (h, rest) one (end_none h (Blanks true rest) none)
 
 -- a hasher that is left out, or named
-pub hasher-none : (bs : List ℕ) (o : Option (Bor (List ℕ) × Bor (List ℕ))) → PieceAs bs o → is_some o ≡ false → Sole (HasherAs bs) Rotating
-hasher-none bs None all e = record {
-  holds = inl (refl, all);
-  only = λ h s. ⊎_elim (λ e. e.0) (λ said. absurd (no-piece bs (label_word labels.Hasher) said.0 all said.1)) s;
+pub hasher-none : (bs rest : List ℕ) (o : Option (Bor (List ℕ))) → NextPiece bs o rest → is_some o ≡ false → Sole (HasherAs bs) Rotating
+hasher-none bs rest None all e = record {
+  holds = inl (refl, all.0);
+  only = λ h s. ⊎_elim (λ e. e.0) (λ said. absurd (no-piece bs (label_word labels.Hasher) said.0 all.0 said.1)) s;
 }
-hasher-none bs (Some q) first e = absurd (both_ways true e refl)
+hasher-none bs rest (Some p) first e = absurd (both_ways true e refl)
 
-pub hasher-unlabelled : (bs : List ℕ) (o : Option (Bor (List ℕ) × Bor (List ℕ))) → PieceAs bs o → is_some o ≡ true → NoneIs (LabelTo labels.Hasher bs) → NoneIs (HasherAs bs)
-hasher-unlabelled bs None all e none = absurd (both_ways false refl e)
-hasher-unlabelled bs (Some q) first e none = λ h s. ⊎_elim (λ end. no-piece bs q.0.now q.1.now end.1 first) (λ said. none said.0 said.1) s
+pub hasher-unlabelled : (bs rest : List ℕ) (o : Option (Bor (List ℕ))) → NextPiece bs o rest → is_some o ≡ true → NoneIs (LabelTo labels.Hasher bs) → NoneIs (HasherAs bs)
+hasher-unlabelled bs rest None all e none = absurd (both_ways false refl e)
+hasher-unlabelled bs rest (Some p) first e none = λ h s. ⊎_elim (λ end. no-piece bs p.now rest end.1 first) (λ said. none said.0 said.1) s
 
 hasher-said : (bs mid : List ℕ) (h : HasherName) → Sole (LabelTo labels.Hasher bs) mid → Sole (HasherNamed mid) h → Sole (HasherAs bs) h
 hasher-said bs mid h one two =

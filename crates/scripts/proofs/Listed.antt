@@ -1,5 +1,5 @@
 -- The units of a line. Assumes nothing.
-use Rattle.std.proofs.Common.{◌≡◌, ℕ, zero, suc, ◌<◌, ◌≤◌, true, Bor, List, [], ◌∷◌, length, get_or, Ok, Err, Result, Vec, vec_items, sym, refl, subst, inl, ⊎_elim, arith}
+use Rattle.std.proofs.Common.{◌≡◌, ℕ, zero, suc, ◌≤◌, true, Bor, List, [], ◌∷◌, Ok, Err, Result, Vec, vec_items, sym, refl, subst, inl, ⊎_elim, arith}
 use Rattle.std.specs.declared.alloc.AllocError.{AllocError}
 use Rattle.tables.specs.Numerals.{Writes}
 use Rattle.tables.specs.Pieces.{Blanks, First, Run, left}
@@ -7,7 +7,7 @@ use Rattle.tables.specs.declared.pieces.Pieces.{Pieces}
 use Rattle.tables.proofs.Gathered.{Gathered, GivesPiece, ReadsTo}
 use Rattle.tables.proofs.Numbers.{writes_one}
 use Rattle.tables.proofs.Sole.{first-same, no-piece}
-use Rattle.scripts.specs.Parts.{UnitAt, Units}
+use Rattle.scripts.specs.Parts.{UnitAt, Units, UnitsUnder}
 use Rattle.scripts.specs.Readings.{NoneIs, Reads}
 use Rattle.scripts.proofs.Soles.{passed}
 use Rattle.scripts.specs.declared.fault.ScriptFault.{ScriptFault}
@@ -27,7 +27,7 @@ module _ (limit n : ℕ) where
   abbrev pub IsUnit : Bor (List ℕ) → Result ℕ ScriptFault → Type 0
   IsUnit p = Reads n (λ k. k) (UnitAt limit p.now)
 
-  under-cons : (u : ℕ) (us : List ℕ) → u ≤ limit → ((i : ℕ) → i < length us → get_or us i 0 ≤ limit) → (i : ℕ) → i < length (u ∷ us) → get_or (u ∷ us) i 0 ≤ limit
+  under-cons : (u : ℕ) (us : List ℕ) → u ≤ limit → UnitsUnder limit us → UnitsUnder limit (u ∷ us)
   under-cons u us low rest zero l = low
   under-cons u us low rest (suc i) l = rest i (omega arith)
 

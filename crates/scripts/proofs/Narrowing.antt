@@ -1,7 +1,6 @@
 -- No unit of a script is above its limit. Assumes nothing.
 use Rattle.std.proofs.Common.{◌≡◌, ℕ, zero, suc, ◌<◌, List, [], ◌∷◌, length, get_or, sym, ap, subst, ⊎_elim, arith}
-use lib.ListN.{length-map}
-use Rattle.std.proofs.lemmas.List.{get_or-map}
+use Rattle.std.proofs.lemmas.List.{get_or-map, length-map}
 use Rattle.std.proofs.lemmas.Bool.{MatchBool-at_true, MatchBool-at_false, cases_Bool}
 use Rattle.tables.specs.Lines.{content, skipped}
 use Rattle.scripts.specs.Calls.{Told, told, told_all, AfterVerb, CallAs, Under, AllUnder}

@@ -1,17 +1,12 @@
 -- The number that the next piece of a line writes. Assumes nothing.
-use Rattle.std.proofs.Common.{ℕ, ◌<◌, true, ◌⊎◌, List, [], ◌∷◌, Err, ap, subst, inl, inr, arith}
+use Rattle.std.proofs.Common.{ℕ, ◌<◌, true, List, [], ◌∷◌, Err, ap, subst, arith}
 use Rattle.tables.specs.declared.word.WordFault.{WordFault}
-use Rattle.tables.specs.declared.word.WordFault.TheVariants.{NotANumber, TooLarge}
-use Rattle.tables.specs.Numerals.{Writes, NoNumber, WideNumber, ReadAs}
+use Rattle.tables.specs.Numerals.{Writes, ReadAs}
 use Rattle.tables.specs.Pieces.{Blanks, First, Run}
 use Rattle.tables.proofs.Numbers.{writes_one}
 use Rattle.tables.proofs.Sole.{first-same, no_word}
 use Rattle.scripts.specs.Parts.{NumberTo, PieceTo, UnitAt}
 use Rattle.scripts.specs.Readings.{Sole, NoneIs}
-
-pub bad-word : (p : List ℕ) (w : WordFault) → ReadAs p (Err w) → NoNumber p ⊎ WideNumber p
-bad-word p NotANumber h = inl h
-bad-word p TooLarge h = inr h
 
 pub number-sole : (bs : List ℕ) (q : ℕ × List ℕ) → NumberTo bs q → Sole (NumberTo bs) q
 number-sole bs q h = record {
@@ -28,7 +23,7 @@ number-missing bs none = λ q h. none (h.0, q.1) h.1
 pub number-bad : (bs p rest : List ℕ) (w : WordFault) → First bs p rest → ReadAs p (Err w) → NoneIs (NumberTo bs)
 number-bad bs p rest w first bad = λ q h.
     let same = first-same bs h.0 q.1 p rest h.1 first in
-    no_word p q.0 (subst (λ l. Writes l q.0) same.0 h.2) h.3 (bad-word p w bad)
+    no_word p q.0 w (subst (λ l. Writes l q.0) same.0 h.2) h.3 bad
 
 -- a number that is all that bs has
 pub alone_sole : (bs rest : List ℕ) (k : ℕ) → Sole (NumberTo bs) (k, rest) → Blanks true rest → Sole (λ n. Run bs (n ∷ [])) k
@@ -47,7 +42,7 @@ alone-more bs rest k one none = λ n h.
 
 -- a piece that writes no unit
 pub unit-bad : (limit : ℕ) (p : List ℕ) (w : WordFault) → ReadAs p (Err w) → NoneIs (UnitAt limit p)
-unit-bad limit p w bad = λ k h. no_word p k h.0 h.1 (bad-word p w bad)
+unit-bad limit p w bad = λ k h. no_word p k w h.0 h.1 bad
 
 pub unit-above : (limit : ℕ) (p : List ℕ) (n : ℕ) → Writes p n → limit < n → NoneIs (UnitAt limit p)
 unit-above limit p n writes above = λ k h. omega (arith, writes_one p k n h.0 writes, h.2)

@@ -1,7 +1,7 @@
 -- The calls that lines write. Assumes nothing.
-use Rattle.std.specs.Prelude.{◌≡◌, ℕ, ◌<◌, ◌≤◌, true, List, [], ◌∷◌, map, length, vec_items, codes, slice_index, slice_index_or}
+use Rattle.std.specs.Prelude.{◌≡◌, ℕ, ◌<◌, true, List, [], ◌∷◌, map, length, vec_items, codes, slice_index_or}
 use Rattle.tables.specs.Pieces.{Blanks, Run}
-use Rattle.scripts.specs.Parts.{Units, WordTo}
+use Rattle.scripts.specs.Parts.{Units, UnitsUnder, WordTo}
 use Rattle.scripts.specs.declared.call.Call.{Call}
 use Rattle.scripts.specs.declared.call.Call.TheVariants as calls
 use Rattle.scripts.specs.declared.verb.Verb.{Verb}
@@ -50,9 +50,6 @@ abbrev pub CallAs : ℕ → List ℕ → Told → Type 0
 CallAs limit bs t = (q : Verb × List ℕ) × WordTo verb_word bs q × AfterVerb limit q.0 q.1 t
 
 -- no unit of the call is above the limit
-abbrev pub UnitsUnder : ℕ → List ℕ → Type 0
-UnitsUnder limit us = (i : ℕ) → i < length us → slice_index us i ≤ limit
-
 abbrev pub Under : ℕ → Told → Type 0
 Under limit (enters us) = UnitsUnder limit us
 Under limit (finds us) = UnitsUnder limit us

@@ -37,7 +37,7 @@ LabelledTo l bs q = (mid : List ℕ) × LabelTo l bs mid × NumberTo mid q
 abbrev pub HasherNamed : List ℕ → HasherName → Type 0
 HasherNamed bs h = (q : HasherName × List ℕ) × WordTo spelling bs q × ((h ≡ q.0) × Blanks true q.1)
 
--- bs is `hasher` and its name, or nothing, which stands for the word-wise hasher
+-- bs is `hasher` and its name, or nothing, which stands for the rotating one
 abbrev pub HasherAs : List ℕ → HasherName → Type 0
 HasherAs bs h = ((h ≡ Rotating) × Blanks true bs) ⊎ ((mid : List ℕ) × LabelTo labels.Hasher bs mid × HasherNamed mid h)
 

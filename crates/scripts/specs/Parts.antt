@@ -1,13 +1,7 @@
 -- The parts of a line. Assumes nothing.
-use Rattle.std.specs.Prelude.{◌≡◌, ℕ, ◌^◌, ◌<◌, ◌≤◌, true, List, length, Some, None, Ok, Err, Option, Result, ◌≢◌, slice_index}
-use Rattle.std.specs.Borrow.{Bor}
+use Rattle.std.specs.Prelude.{◌≡◌, ℕ, ◌^◌, ◌<◌, ◌≤◌, List, length, Ok, Err, Result, ◌≢◌, slice_index}
 use Rattle.tables.specs.Numerals.{Writes}
-use Rattle.tables.specs.Pieces.{Blanks, First, Run}
-
--- the next piece of bs and what follows it, or that bs has none
-abbrev pub PieceAs : List ℕ → Option (Bor (List ℕ) × Bor (List ℕ)) → Type 0
-PieceAs bs None = Blanks true bs
-PieceAs bs (Some q) = First bs q.0.now q.1.now
+use Rattle.tables.specs.Pieces.{First, Run}
 
 -- the next piece of bs, and what follows it
 abbrev pub PieceTo : List ℕ → List ℕ × List ℕ → Type 0
@@ -21,10 +15,14 @@ NumberTo bs q = (p : List ℕ) × First bs p q.1 × Writes p q.0 × (q.0 < 2 ^ 3
 abbrev pub UnitAt : ℕ → List ℕ → ℕ → Type 0
 UnitAt limit p k = Writes p k × (k < 2 ^ 32) × (k ≤ limit)
 
+-- no unit is above the limit
+abbrev pub UnitsUnder : ℕ → List ℕ → Type 0
+UnitsUnder limit us = (i : ℕ) → i < length us → slice_index us i ≤ limit
+
 -- the pieces of bs write the units us, none above the limit
 pub record Units (limit : ℕ) (bs us : List ℕ) : Type 0 where
   pub run : Run bs us
-  pub under : (i : ℕ) → i < length us → slice_index us i ≤ limit
+  pub under : UnitsUnder limit us
 
 -- the next piece of bs is the word for something, and what follows it
 abbrev pub WordTo : {V : Type 0} → (V → List ℕ) → List ℕ → V × List ℕ → Type 0

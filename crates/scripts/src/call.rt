@@ -1,4 +1,5 @@
 // A call of a catalogue, as a line writes it.
+ghost use Rattle.tables.specs.Pieces.{left};
 ghost use Rattle.scripts.specs.Calls.{AfterVerb, CallAs, told};
 ghost use Rattle.scripts.specs.Readings.{Reads};
 
@@ -8,6 +9,7 @@ use crate::pieces::{read_end, read_sole_number};
 use crate::units::read_units;
 use crate::verb::Verb;
 use tables::line::Line;
+use tables::pieces::Pieces;
 
 #[derive(Debug, Drop)]
 pub enum Call<U> {
@@ -24,21 +26,27 @@ pub enum Call<U> {
 pub fn read_call(line: Line, text: &str, limit: u32) -> Result<Call<u32>, ScriptFault>
     ensures { Reads line.number told (CallAs limit text.now) result }
 {
-    let (verb, rest) = read_named(line, text)?;
-    after_verb(line, verb, rest, limit)
+    let mut pieces = Pieces::new(text);
+    let verb = read_named(line, &mut pieces)?;
+    after_verb(line, verb, pieces, limit)
 }
 
-// The call of a verb and what follows it.
-fn after_verb(line: Line, verb: Verb, rest: &str, limit: u32) -> Result<Call<u32>, ScriptFault>
-    ensures { Reads line.number told (AfterVerb limit verb rest.now) result }
+// The call of a verb and the pieces after it.
+fn after_verb(
+    line: Line,
+    verb: Verb,
+    pieces: Pieces<'_>,
+    limit: u32,
+) -> Result<Call<u32>, ScriptFault>
+    ensures { Reads line.number told (AfterVerb limit verb (left pieces.entry)) result }
 {
     match verb {
-        Verb::Enter => read_units(line, rest, limit).map(Call::Enter),
-        Verb::Find => read_units(line, rest, limit).map(Call::Find),
-        Verb::Cut => read_sole_number(line, rest).map(Call::Cut),
-        Verb::Count => read_end(line, rest).map(|()| Call::Count),
-        Verb::Class => read_sole_number(line, rest).map(Call::Class),
-        Verb::Hash => read_sole_number(line, rest).map(Call::Hash),
-        Verb::Run => read_sole_number(line, rest).map(Call::Run),
+        Verb::Enter => read_units(line, pieces, limit).map(Call::Enter),
+        Verb::Find => read_units(line, pieces, limit).map(Call::Find),
+        Verb::Cut => read_sole_number(line, pieces).map(Call::Cut),
+        Verb::Count => read_end(line, pieces).map(|()| Call::Count),
+        Verb::Class => read_sole_number(line, pieces).map(Call::Class),
+        Verb::Hash => read_sole_number(line, pieces).map(Call::Hash),
+        Verb::Run => read_sole_number(line, pieces).map(Call::Run),
     }
 }

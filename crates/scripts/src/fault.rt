@@ -24,12 +24,12 @@ pub enum Expected {
     End,
 }
 
-// Where nothing was found, the line ends there.
 #[derive(Debug, Drop)]
 pub enum ScriptFault {
     Unexpected {
         line: usize,
         expected: Expected,
+        // `None` where the line ends.
         found: Option<String>,
     },
     NoHeading,
@@ -51,7 +51,8 @@ impl From<BadUtf8> for ScriptFault {
     }
 }
 
-// Kept: `?` asks for an impl for each error that it converts.
+// Kept: `?` asks for an impl for each error that it converts, here and for the fault of a table. One macro for both is
+// refused, since no impl may come of a macro of the repository, and the `From` that `thiserror` derives has no contract.
 impl From<AllocError> for ScriptFault {
     ghost from_gives = { λ _ r. r ≡ Memory };
 

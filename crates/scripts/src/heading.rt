@@ -1,6 +1,7 @@
 // The heading of a script: the kind of a catalogue, its room and its hasher.
 ghost use Rattle.std.specs.Prelude.{◌≡◌};
 ghost use Rattle.hashing.specs.Named.{spelling};
+ghost use Rattle.tables.specs.Pieces.{left};
 ghost use Rattle.scripts.specs.Headings.{HasherAs, HasherNamed, HeadingAs, KindTo, kind_word};
 ghost use Rattle.scripts.specs.Parts.{WordAs};
 ghost use Rattle.scripts.specs.Readings.{Reads};
@@ -10,10 +11,11 @@ ghost use Rattle.scripts.specs.Spellings.{hasher-same, kind-same};
 use crate::fault::{Expected, ScriptFault, UnknownWord};
 use crate::label::{Label, read_label, read_labelled};
 use crate::named::{Named, read_named};
-use crate::pieces::{next_piece, read_end};
+use crate::pieces::read_end;
 use hashing::named::HasherName;
 use std::str::FromStr;
 use tables::line::Line;
+use tables::pieces::Pieces;
 
 // What the entries are.
 #[derive(Clone, Copy, Debug, PartialEq, Eq)]
@@ -85,10 +87,11 @@ pub struct Heading {
 pub fn read_heading(line: Line, text: &str) -> Result<(Kind, Heading), ScriptFault>
     ensures { Reads line.number (λ x. x) (HeadingAs text.now) result }
 {
-    let (kind, rest) = read_kind(line, text)?;
-    let (slots, rest) = read_labelled(line, rest, Label::Slots)?;
-    let (units, rest) = read_labelled(line, rest, Label::Units)?;
-    let hasher = read_hasher(line, rest)?;
+    let mut pieces = Pieces::new(text);
+    let kind = read_kind(line, &mut pieces)?;
+    let slots = read_labelled(line, &mut pieces, Label::Slots)?;
+    let units = read_labelled(line, &mut pieces, Label::Units)?;
+    let hasher = read_hasher(line, pieces)?;
     Ok((
         kind,
         Heading {
@@ -99,30 +102,31 @@ pub fn read_heading(line: Line, text: &str) -> Result<(Kind, Heading), ScriptFau
     ))
 }
 
-// The kind after `catalogue`, and what follows it.
-fn read_kind(line: Line, text: &str) -> Result<(Kind, &str), ScriptFault>
-    ensures { Reads line.number (λ x. (x.0, x.1.now)) (KindTo text.now) result }
+// The kind after `catalogue`.
+fn read_kind(line: Line, pieces: &mut Pieces<'_>) -> Result<Kind, ScriptFault>
+    ensures { Reads line.number (λ k. (k, left pieces.new)) (KindTo (left pieces.old)) result }
 {
-    let rest = read_label(line, text, Label::Catalogue)?;
-    read_named(line, rest)
+    read_label(line, pieces, Label::Catalogue)?;
+    read_named(line, pieces)
 }
 
-// The hasher at the end of a heading, the word-wise one where none stands there.
-fn read_hasher(line: Line, text: &str) -> Result<HasherName, ScriptFault>
-    ensures { Reads line.number (λ x. x) (HasherAs text.now) result }
+// The hasher at the end of a heading, the rotating one where none stands there.
+fn read_hasher(line: Line, mut pieces: Pieces<'_>) -> Result<HasherName, ScriptFault>
+    ensures { Reads line.number (λ x. x) (HasherAs (left pieces.entry)) result }
 {
-    if next_piece(text).is_none() {
+    let mut ahead = pieces;
+    if ahead.next().is_none() {
         return Ok(HasherName::Rotating);
     }
-    let rest = read_label(line, text, Label::Hasher)?;
-    read_hasher_name(line, rest)
+    read_label(line, &mut pieces, Label::Hasher)?;
+    read_hasher_name(line, pieces)
 }
 
-// The hasher whose name is all the text has.
-fn read_hasher_name(line: Line, text: &str) -> Result<HasherName, ScriptFault>
-    ensures { Reads line.number (λ x. x) (HasherNamed text.now) result }
+// The hasher whose name is all that the pieces are.
+fn read_hasher_name(line: Line, mut pieces: Pieces<'_>) -> Result<HasherName, ScriptFault>
+    ensures { Reads line.number (λ x. x) (HasherNamed (left pieces.entry)) result }
 {
-    let (hasher, rest) = read_named(line, text)?;
-    read_end(line, rest)?;
+    let hasher = read_named(line, &mut pieces)?;
+    read_end(line, pieces)?;
     Ok(hasher)
 }

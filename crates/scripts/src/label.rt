@@ -1,11 +1,13 @@
 // The labels that stand in a heading.
 ghost use Rattle.std.specs.Prelude.{◌≡◌};
+ghost use Rattle.tables.specs.Pieces.{left};
 ghost use Rattle.scripts.specs.Headings.{LabelTo, LabelledTo, label_word};
 ghost use Rattle.scripts.specs.Readings.{Reads};
 
 use crate::fault::{Expected, ScriptFault};
 use crate::pieces::{read_number, read_piece};
 use tables::line::Line;
+use tables::pieces::Pieces;
 
 #[derive(Clone, Copy, Debug, PartialEq, Eq)]
 pub(crate) enum Label {
@@ -41,25 +43,29 @@ impl From<Label> for Expected {
     }
 }
 
-// What follows the label that the next piece is.
-pub(crate) fn read_label(line: Line, text: &str, label: Label) -> Result<&str, ScriptFault>
-    ensures { Reads line.number (λ x. x.now) (LabelTo label text.now) result }
+// The next piece is the label.
+pub(crate) fn read_label(
+    line: Line,
+    pieces: &mut Pieces<'_>,
+    label: Label,
+) -> Result<(), ScriptFault>
+    ensures { Reads line.number (λ _. left pieces.new) (LabelTo label (left pieces.old)) result }
 {
-    let (piece, rest) = read_piece(line, text, label.into())?;
+    let piece = read_piece(line, pieces, label.into())?;
     if piece == label.word() {
-        return Ok(rest);
+        return Ok(());
     }
     Err(ScriptFault::found(line, label.into(), piece))
 }
 
-// The number after a label, and what follows it.
+// The number after a label.
 pub(crate) fn read_labelled(
     line: Line,
-    text: &str,
+    pieces: &mut Pieces<'_>,
     label: Label,
-) -> Result<(usize, &str), ScriptFault>
-    ensures { Reads line.number (λ x. (x.0, x.1.now)) (LabelledTo label text.now) result }
+) -> Result<usize, ScriptFault>
+    ensures { Reads line.number (λ k. (k, left pieces.new)) (LabelledTo label (left pieces.old)) result }
 {
-    let rest = read_label(line, text, label)?;
-    read_number(line, rest)
+    read_label(line, pieces, label)?;
+    read_number(line, pieces)
 }

@@ -1,5 +1,6 @@
 // The words that name something.
 ghost use Rattle.std.specs.Prelude.{◌≡◌, ℕ, List, Result};
+ghost use Rattle.tables.specs.Pieces.{left};
 ghost use Rattle.scripts.specs.Parts.{WordAs, WordTo};
 ghost use Rattle.scripts.specs.Readings.{Reads};
 
@@ -7,6 +8,7 @@ use crate::fault::{Expected, ScriptFault};
 use crate::pieces::read_piece;
 use std::str::FromStr;
 use tables::line::Line;
+use tables::pieces::Pieces;
 
 // What a word can name.
 pub(crate) trait Named: FromStr {
@@ -22,15 +24,17 @@ pub(crate) trait Named: FromStr {
     ghost reads: { (bs : List ℕ) (r : Result Self Self.Err) → Self.from_str_gives bs r → WordAs spelling bs r };
 }
 
-// What the next piece names, and what follows it.
-pub(crate) fn read_named<T: Named + Drop>(line: Line, text: &str) -> Result<(T, &str), ScriptFault>
+// What the next piece names.
+pub(crate) fn read_named<T: Named + Drop>(
+    line: Line,
+    pieces: &mut Pieces<'_>,
+) -> Result<T, ScriptFault>
 where
     T::Err: Drop,
-    ensures { Reads line.number (λ x. (x.0, x.1.now)) (WordTo T.spelling text.now) result }
+    ensures { Reads line.number (λ x. (x, left pieces.new)) (WordTo T.spelling (left pieces.old)) result }
 {
-    let (piece, rest) = read_piece(line, text, T::expected())?;
-    let named = piece
+    let piece = read_piece(line, pieces, T::expected())?;
+    piece
         .parse::<T>()
-        .map_err(|_| ScriptFault::found(line, T::expected(), piece))?;
-    Ok((named, rest))
+        .map_err(|_| ScriptFault::found(line, T::expected(), piece))
 }

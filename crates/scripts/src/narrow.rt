@@ -1,6 +1,7 @@
 // Calls whose units are bytes.
 ghost use Rattle.std.specs.Prelude.{vec_items};
-ghost use Rattle.scripts.specs.Calls.{AllUnder, Under, UnitsUnder, told, told_all};
+ghost use Rattle.scripts.specs.Calls.{AllUnder, Under, told, told_all};
+ghost use Rattle.scripts.specs.Parts.{UnitsUnder};
 ghost use Rattle.scripts.specs.Readings.{Kept};
 
 use crate::call::Call;
@@ -8,6 +9,7 @@ use crate::fault::ScriptFault;
 use std::alloc::Global;
 
 // The same calls, of names.
+// Kept: their units are read as words and made bytes here, since `read_call` is published and answers words.
 pub(crate) fn narrow_calls(heap: Global, calls: &[Call<u32>]) -> Result<Vec<Call<u8>>, ScriptFault>
     requires { AllUnder 255 calls.now }
     ensures { Kept (λ v. told_all v.items) (told_all calls.now) result }

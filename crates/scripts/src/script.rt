@@ -42,6 +42,7 @@ fn read_lines(heap: Global, text: &str) -> Result<(Kind, Heading, Vec<Call<u32>>
 {
     let mut headed: Option<(Kind, Heading)> = None;
     let mut calls = Vec::new(heap);
+    // Kept: `str::lines` gives no last empty line, and leaves the return of a last line that no line feed ends.
     for (i, row) in text.split('\n').enumerate() {
         let content = before_return(row);
         if is_skipped(content) {

@@ -1,5 +1,4 @@
 // Scripts as they are read, and the faults of their text as they are shown.
-use crate::call::Call;
 use crate::script::{Script, read_script};
 use hashing::named::HasherName;
 use std::process::Abort;

@@ -1,5 +1,6 @@
 // The units of an entry.
 ghost use Rattle.std.specs.Prelude.{vec_items};
+ghost use Rattle.tables.specs.Pieces.{left};
 ghost use Rattle.scripts.specs.Parts.{UnitAt, Units};
 ghost use Rattle.scripts.specs.Readings.{Reads};
 
@@ -8,11 +9,15 @@ use tables::line::Line;
 use tables::pieces::Pieces;
 use tables::word::read_word;
 
-// The units that the pieces of a text write, none above `limit`.
-pub(crate) fn read_units(line: Line, text: &str, limit: u32) -> Result<Vec<u32>, ScriptFault>
-    ensures { Reads line.number vec_items (Units limit text.now) result }
+// The units that pieces write, none above `limit`.
+pub(crate) fn read_units(
+    line: Line,
+    pieces: Pieces<'_>,
+    limit: u32,
+) -> Result<Vec<u32>, ScriptFault>
+    ensures { Reads line.number vec_items (Units limit (left pieces.entry)) result }
 {
-    Pieces::new(text)
+    pieces
         .map(|piece| read_unit(line, piece, limit))
         .try_collect(line.heap)
 }
@@ -28,7 +33,7 @@ fn read_unit(line: Line, piece: &str, limit: u32) -> Result<u32, ScriptFault>
 }
 
 // What a unit is that may be as large as `limit`.
-// Kept: the limit is a number, since `read_call` takes any; the largest byte alone has a name of its own.
+// Kept: the limit is a number, since `read_call` is published and takes any; were it a kind, it would promise less.
 fn unit_up_to(limit: u32) -> Expected {
     if limit == u32::from(u8::MAX) {
         Expected::Byte

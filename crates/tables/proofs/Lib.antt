@@ -1,6 +1,5 @@
 pub mod Numbers
 pub mod Cuts
-pub mod Ordered
 pub mod Mapped
 pub mod Gathered
 pub mod Endings

@@ -1,6 +1,6 @@
 -- The rules of a table, one line more. Assumes nothing.
 use Rattle.std.proofs.Common.{◌≡◌, ℕ, suc, ◌+◌, ◌<◌, Bool, true, false, true≢false, cond, ◌⊎◌, List, [], ◌∷◌, ◌++◌, length, get_or, Some, None, string_bytes, MatchBool, Option, String, sym, refl, ap, ◌∙◌, subst, inl, inr, ⊎_elim, append_assoc, arith}
-use Rattle.std.specs.BTreeMap.{get_by_text, is_at, IsEmpty, IsOrdered}
+use Rattle.std.specs.BTreeMap.{get_by_text, is_at, IsEmpty}
 use Rattle.std.specs.Cmp.Lexicographic.{slice_cmp}
 use Rattle.std.specs.Map.{lookup, update}
 use Rattle.std.specs.Ordering.{nat_cmp}
@@ -8,14 +8,13 @@ use Rattle.std.specs.Str.{bytes_eq}
 use Rattle.std.proofs.lemmas.Slice.Eq.{bytes_eq-Decides}
 use Rattle.std.specs.BTreeMap.{BTreeMap}
 use Rattle.std.proofs.lemmas.List.{get_or_append_left, get_or_push, length_push}
+use Rattle.std.proofs.lemmas.Option.{none-some}
 use Rattle.std.proofs.lemmas.Bool.{cases_lt, cases_Bool, cond-true, cond-false, false_from_ne_true}
 use Rattle.tables.specs.declared.fault.TableFault.{TableFault}
-use Rattle.tables.specs.declared.fault.TableFault.TheVariants.{NoColon, NoName, NameTwice, NotANumber, TooLarge, NotUtf8, Memory}
+use Rattle.tables.specs.declared.fault.TableFault.TheVariants.{NoColon, NoName, NameTwice, NotAWord, NotUtf8, Memory}
 use Rattle.tables.specs.declared.line.Entry.{Entry}
 use Rattle.tables.specs.Lines.{content, skipped, RuleAt, LineFault}
 use Rattle.tables.specs.Rules.{lines, name_of, Holds, Apart, Stands, FaultAfter, FaultIn, NameFault, SetsText}
-use Rattle.tables.proofs.Ordered.{empty-ordered}
-use Rattle.std.specs.String.{string_cmp}
 
 -- what holds at a test that came out so
 pub when_true : (b : Bool) (P Q : Type 0) → b ≡ true → P → MatchBool b P Q
@@ -93,19 +92,14 @@ module _ {Y : Type 0} where
 
   -- m has the line of each of the rules es at its name, and no other name
   pub record Noted (es : List Entry) (m : BTreeMap (String Y) ℕ) : Type 0 where
-    pub ordered : IsOrdered string_cmp m
     pub has : (i : ℕ) (d : Entry) → i < length es → get_by_text m (name_of (get_or es i d)) ≡ Some (get_or es i d).line
     pub from : (v : List ℕ) (k : ℕ) → get_by_text m v ≡ Some k → Stands es v k
 
   noted-none : (m : BTreeMap (String Y) ℕ) → IsEmpty m → Noted [] m
   noted-none m none = record {
-    ordered = empty-ordered string_cmp m none;
     has = λ i d l. absurd (omega arith);
-    from = λ v k e. absurd (nothing (sym (ap (λ es. lookup (is_at (λ k. slice_cmp nat_cmp v (string_bytes k))) es) none) ∙ e));
+    from = λ v k e. absurd (none-some k (sym (ap (λ es. lookup (is_at (λ k. slice_cmp nat_cmp v (string_bytes k))) es) none) ∙ e));
   }
-    where
-      nothing : {k : ℕ} → ◌≡◌ {A = Option ℕ} None (Some k) → ⊥
-      nothing e = let z : ◌≡◌ {A = ℕ} 0 1 = cc in omega arith
 
   new-name : (es : List Entry) (m : BTreeMap (String Y) ℕ) (v : List ℕ) → Noted es m → get_by_text m v ≡ None → (i : ℕ) (d : Entry) → i < length es → name_of (get_or es i d) ≡ v → ⊥
   new-name es m v h none i d l same =
@@ -115,23 +109,22 @@ module _ {Y : Type 0} where
 
   noted_more : (es : List Entry) (x : Entry) (m n : BTreeMap (String Y) ℕ) → Noted es m → get_by_text m (name_of x) ≡ None → SetsText m n (name_of x) (Some x.line) → Noted (es ++ (x ∷ [])) n
   noted_more es x m n h none sets = record {
-    ordered = sets.0;
     has = λ i d l.
         ⊎_elim
         (λ inside.
         let other = new-name es m (name_of x) h none i d inside in
         subst (λ y. get_by_text n (name_of y) ≡ Some y.line) (sym (get_or_append_left es (x ∷ []) d i inside))
-        (sets.1 (name_of (get_or es i d)) ∙ cond-false _ (Some x.line) (get_by_text m (name_of (get_or es i d))) (differs (name_of (get_or es i d)) (name_of x) other) ∙ h.has i d inside))
+        (sets (name_of (get_or es i d)) ∙ cond-false _ (Some x.line) (get_by_text m (name_of (get_or es i d))) (differs (name_of (get_or es i d)) (name_of x) other) ∙ h.has i d inside))
         (λ at.
         let end : length es ≡ i = omega (arith, length_push es x) in
-        subst (λ y. get_by_text n (name_of y) ≡ Some y.line) (sym (get_or_push es x d i end)) (sets.1 (name_of x) ∙ cond-true _ (Some x.line) (get_by_text m (name_of x)) ((bytes_eq-Decides (name_of x) (name_of x)).1 refl)))
+        subst (λ y. get_by_text n (name_of y) ≡ Some y.line) (sym (get_or_push es x d i end)) (sets (name_of x) ∙ cond-true _ (Some x.line) (get_by_text m (name_of x)) ((bytes_eq-Decides (name_of x) (name_of x)).1 refl)))
         (cases_lt i (length es));
     from = λ v k e.
         ⊎_elim
         (λ yes.
-        let got = sym (sets.1 v ∙ cond-true (bytes_eq v (name_of x)) (Some x.line) (get_by_text m v) yes) ∙ e in
+        let got = sym (sets v ∙ cond-true (bytes_eq v (name_of x)) (Some x.line) (get_by_text m v) yes) ∙ e in
         stands-last es x v k ((bytes_eq-Decides v (name_of x)).0 yes) (cc))
-        (λ other. stands-more es x v k (h.from v k (sym (sets.1 v ∙ cond-false (bytes_eq v (name_of x)) (Some x.line) (get_by_text m v) other) ∙ e)))
+        (λ other. stands-more es x v k (h.from v k (sym (sets v ∙ cond-false (bytes_eq v (name_of x)) (Some x.line) (get_by_text m v) other) ∙ e)))
         (cases_Bool (bytes_eq v (name_of x)));
   }
 
@@ -200,8 +193,7 @@ module _ {Y : Type 0} where
     pub line-stops : (f : TableFault) → skipped (content l) ≡ false → LineFault (line + 1) (content l) f → (f ≡ Memory) ⊎ FaultIn text f
     line-stops (NoColon k) plain h = inr (fault-in (NoColon k) plain h)
     line-stops (NoName k) plain h = inr (fault-in (NoName k) plain h)
-    line-stops (NotANumber k found) plain h = inr (fault-in (NotANumber k found) plain h)
-    line-stops (TooLarge k found) plain h = inr (fault-in (TooLarge k found) plain h)
+    line-stops (NotAWord k found why) plain h = inr (fault-in (NotAWord k found why) plain h)
     line-stops (NameTwice k name before) plain h = absurd h
     line-stops (NotUtf8 k) plain h = absurd h
     line-stops Memory plain h = inl refl
@@ -209,8 +201,7 @@ module _ {Y : Type 0} where
     pub name-stops : (x : Entry) (f : TableFault) → skipped (content l) ≡ false → RuleAt (line + 1) (content l) x → NameFault m x f → (f ≡ Memory) ⊎ FaultIn text f
     name-stops x (NoColon k) plain rule h = absurd h
     name-stops x (NoName k) plain rule h = absurd h
-    name-stops x (NotANumber k found) plain rule h = absurd h
-    name-stops x (TooLarge k found) plain rule h = absurd h
+    name-stops x (NotAWord k found why) plain rule h = absurd h
     name-stops x (NameTwice k name before) plain rule h =
         inr (fault-in (NameTwice k name before) plain (h.0 ∙ rule.place, (x, rule, h.2, old.noted.from (name_of x) before h.1)))
     name-stops x (NotUtf8 k) plain rule h = absurd h

@@ -48,9 +48,6 @@ pub step_line : (c : ℕ) (now-live : Bool) (w x : List ℕ) (live : Bool) (rest
 step_line c now-live w x live rest at on h =
     sym (ap (λ b. left_lines b w) on) ∙ next-line w x live rest (subst (λ k. IsSplitAtFirstMatch (FindsChar k) w x live rest) at h)
 
-pub no_line : (now-live : Bool) (w : List ℕ) → false ≡ now-live → left_lines now-live w ≡ []
-no_line now-live w off = sym (ap (λ b. left_lines b w) off)
-
 -- the lines that are left of those of a text, with their numbers from 0 on
 abbrev pub rows_left : Enumerate (Split ℕ) → List (List ℕ)
 rows_left s = left_lines (split_has_more (enumerate_source s)) (split_text (enumerate_source s))
@@ -70,9 +67,6 @@ next_row s t i row feeds (step, is, on, _) =
       sym is,
       on ∙ ap (λ n. n + 1) (sym is),
     )
-
-pub no_row : (s t : Enumerate (Split ℕ)) → row-steps s None t → rows_left s ≡ []
-no_row s t (step, _) = no_line (split_has_more (enumerate_source s)) (split_text (enumerate_source s)) step.0
 
 -- a line feed begins a line
 grown-same : (b : ℕ) (ls : List (List ℕ)) → 0 < length ls → length (grown b ls) ≡ length ls

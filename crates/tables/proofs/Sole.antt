@@ -1,15 +1,16 @@
 -- A line that holds a rule has no fault, and a table of such lines has none. Assumes nothing.
-use Rattle.std.proofs.Common.{◌≡◌, ℕ, ◌+◌, ◌-◌, ◌^◌, ◌<◌, Bool, true, false, ◌⊎◌, List, [], ◌∷◌, ◌++◌, map, length, get_or, Some, None, Ok, Err, IsUtf8, Option, Result, Vec, sym, refl, ap, ◌∙◌, subst, inl, inr, ⊎_elim, arith, length-append}
-use lib.ListN.{length-map}
+use Rattle.std.proofs.Common.{◌≡◌, ℕ, ◌+◌, ◌-◌, ◌^◌, ◌<◌, Bool, true, false, List, [], ◌∷◌, ◌++◌, map, length, get_or, Some, None, Ok, Err, IsUtf8, Option, Result, Vec, sym, refl, ap, ◌∙◌, subst, ⊎_elim, arith, length-append}
 use Rattle.std.specs.Str.{IsValidUpTo}
 use Rattle.std.specs.Str.Iter.{LacksByte}
-use Rattle.std.proofs.lemmas.List.{get_or_append_left, get_or-append_right, get_or-map, get_or_at, take_all}
+use Rattle.std.proofs.lemmas.List.{get_or_append_left, get_or-append_right, get_or-map, get_or_at, length-map, take_all}
 use Rattle.std.proofs.lemmas.Bool.{MatchBool-at_true, MatchBool-at_false, cases_order, cases_Bool, both_ways}
 use Rattle.tables.specs.declared.fault.TableFault.{TableFault}
-use Rattle.tables.specs.declared.fault.TableFault.TheVariants.{NoColon, NoName, NameTwice, NotANumber, TooLarge, NotUtf8, Memory}
+use Rattle.tables.specs.declared.fault.TableFault.TheVariants.{NoColon, NoName, NameTwice, NotAWord, NotUtf8, Memory}
 use Rattle.tables.specs.declared.line.Entry.{Entry}
+use Rattle.tables.specs.declared.word.WordFault.{WordFault}
+use Rattle.tables.specs.declared.word.WordFault.TheVariants.{NotANumber, TooLarge}
 use Rattle.tables.specs.Lines.{content, skipped, Parted, RuleAt, LineFault, LineAs, KeepsRules}
-use Rattle.tables.specs.Numerals.{Writes, NoNumber, WideNumber}
+use Rattle.tables.specs.Numerals.{Writes, ReadAs}
 use Rattle.tables.specs.Pieces.{blank, Blanks, Trimmed, First, Run, RunTo}
 use Rattle.tables.specs.Rules.{lines, name_of, Holds, Apart, FaultAfter, FaultIn, TableAs, KeepsTables}
 use Rattle.tables.proofs.Numbers.{writes_one}
@@ -66,19 +67,20 @@ no-piece bs p rest all f =
     let within : length f.gap < length bs = omega (arith, f.some, ap length f.whole ∙ length-append f.gap (p ++ rest), length-append p rest) in
     both_ways (blank (get_or p 0 0)) (f.solid 0 f.some) (sym (ap blank there) ∙ all (length f.gap) within)
 
-pub no_word : (p : List ℕ) (w : ℕ) → Writes p w → w < 2 ^ 32 → NoNumber p ⊎ WideNumber p → ⊥
-no_word p w writes fits bad = ⊎_elim (λ no. no w writes) (λ wide. omega (arith, wide.2, writes_one p wide.0 w wide.1 writes)) bad
+pub no_word : (p : List ℕ) (w : ℕ) (why : WordFault) → Writes p w → w < 2 ^ 32 → ReadAs p (Err why) → ⊥
+no_word p w NotANumber writes fits bad = bad w writes
+no_word p w TooLarge writes fits bad = omega (arith, bad.2, writes_one p bad.0 w bad.1 writes)
 
 -- a run of words has no piece that is none
-run-never : (run ws vs p : List ℕ) → Run run ws → RunTo run vs p → NoNumber p ⊎ WideNumber p → ⊥
-run-never run [] [] p r to bad = no-piece run p to.0 r to.1
-run-never run [] (v ∷ vs) p r to bad = no-piece run to.0 to.1 r to.2
-run-never run (w ∷ ws) [] p r to bad =
+run-never : (run ws vs p : List ℕ) (why : WordFault) → Run run ws → RunTo run vs p → ReadAs p (Err why) → ⊥
+run-never run [] [] p why r to bad = no-piece run p to.0 r to.1
+run-never run [] (v ∷ vs) p why r to bad = no-piece run to.0 to.1 r to.2
+run-never run (w ∷ ws) [] p why r to bad =
     let same = first-same run r.0 r.1 p to.0 r.2 to.1 in
-    no_word p w (subst (λ q. Writes q w) same.0 r.3) r.4 bad
-run-never run (w ∷ ws) (v ∷ vs) p r to bad =
+    no_word p w why (subst (λ q. Writes q w) same.0 r.3) r.4 bad
+run-never run (w ∷ ws) (v ∷ vs) p why r to bad =
     let same = first-same run r.0 r.1 to.0 to.1 r.2 to.2 in
-    run-never to.1 ws vs p (subst (λ l. Run l ws) same.1 r.5) to.5 bad
+    run-never to.1 ws vs p why (subst (λ l. Run l ws) same.1 r.5) to.5 bad
 
 no-colon : (bs front run : List ℕ) → LacksByte 58 bs → Parted bs front run → ⊥
 no-colon bs front run none cut =
@@ -106,14 +108,10 @@ rule-never n k bs e (NoColon j) rule h = absurd (no-colon bs rule.front rule.run
 rule-never n k bs e (NoName j) rule h =
     let same = parted-same bs rule.front rule.run h.1.0 h.1.1 rule.parted h.1.2 in
     absurd (named-dark rule.front (name_of e) rule.trimmed rule.named (subst (Blanks true) (sym same.0) h.1.3))
-rule-never n k bs e (NotANumber j found) rule h =
+rule-never n k bs e (NotAWord j found why) rule h =
     let same = parted-same bs rule.front rule.run h.0 h.1 rule.parted h.2 in
     let at = h.3.1 in
-    absurd (run-never h.1 _ at.0 at.1 (subst (λ l. Run l _) same.1 rule.words) at.2 (inl at.3))
-rule-never n k bs e (TooLarge j found) rule h =
-    let same = parted-same bs rule.front rule.run h.0 h.1 rule.parted h.2 in
-    let at = h.3.1 in
-    absurd (run-never h.1 _ at.0 at.1 (subst (λ l. Run l _) same.1 rule.words) at.2 (inr at.3))
+    absurd (run-never h.1 _ at.0 at.1 why (subst (λ l. Run l _) same.1 rule.words) at.2 at.3)
 rule-never n k bs e (NameTwice j name before) rule h = absurd h
 rule-never n k bs e (NotUtf8 j) rule h = absurd h
 rule-never n k bs e Memory rule h = refl
@@ -216,8 +214,7 @@ module _ (es ds rules more : List Entry) (e : Entry) (n k : ℕ) (bs : List ℕ)
   fault-never : (f : TableFault) → FaultAfter rules k bs f → ⊥
   fault-never (NoColon j) h = let z = rule-never n k bs e (NoColon j) rule h in cc
   fault-never (NoName j) h = let z = rule-never n k bs e (NoName j) rule h in cc
-  fault-never (NotANumber j found) h = let z = rule-never n k bs e (NotANumber j found) rule h in cc
-  fault-never (TooLarge j found) h = let z = rule-never n k bs e (TooLarge j found) rule h in cc
+  fault-never (NotAWord j found why) h = let z = rule-never n k bs e (NotAWord j found why) rule h in cc
   fault-never (NameTwice j name before) h =
       let x = h.1.0 in
       let stands = h.1.3 in

@@ -2,11 +2,10 @@
 use Rattle.std.specs.Prelude.{◌≡◌, ℕ, ◌^◌, ◌<◌, ◌≤◌, Bool, true, false, cond, ◌⊎◌, List, [], ◌∷◌, ◌++◌, length, take, Some, None, Ok, Err, vec_items, string_bytes, codes, Option, Result, Vec, ◌==◌}
 use Rattle.std.specs.Str.Iter.{LacksByte}
 use Rattle.tables.specs.declared.fault.TableFault.{TableFault}
-use Rattle.tables.specs.declared.fault.TableFault.TheVariants.{NoColon, NoName, NameTwice, NotANumber, TooLarge, NotUtf8, Memory}
+use Rattle.tables.specs.declared.fault.TableFault.TheVariants.{NoColon, NoName, NameTwice, NotAWord, NotUtf8, Memory}
 use Rattle.tables.specs.declared.line.Entry.{Entry}
 use Rattle.tables.specs.declared.word.WordFault.{WordFault}
-use Rattle.tables.specs.declared.word.WordFault.TheVariants as words
-use Rattle.tables.specs.Numerals.{Writes, NoNumber, WideNumber, ReadAs}
+use Rattle.tables.specs.Numerals.{Writes, ReadAs}
 use Rattle.tables.specs.Pieces.{blank, Blanks, Trimmed, Run, RunTo}
 
 -- a line without the carriage return that may end it
@@ -39,16 +38,15 @@ pub record RuleAt (n : ℕ) (bs : List ℕ) (e : Entry) : Type 0 where
 abbrev pub Shown : List ℕ → List ℕ → Type 0
 Shown bs ss = ((length bs ≤ 40) × (ss ≡ bs)) ⊎ ((40 < length bs) × ((k : ℕ) × (k ≤ 40) × (ss ≡ take k bs ++ codes "...")))
 
--- the first pieces of run write words, P holds of the next, and found shows that one
-abbrev pub PieceAt : (List ℕ → Type 0) → List ℕ → List ℕ → Type 0
-PieceAt P run found = (ws : List ℕ) × (p : List ℕ) × RunTo run ws p × P p × Shown p found
+-- the first pieces of run write words, the next is none for this reason, and found shows that one
+abbrev pub PieceAt : WordFault → List ℕ → List ℕ → Type 0
+PieceAt why run found = (ws : List ℕ) × (p : List ℕ) × RunTo run ws p × ReadAs p (Err why) × Shown p found
 
 -- what is wrong with the run of line n
 abbrev pub RunFault : ℕ → List ℕ → TableFault → Type 0
 RunFault n run (NoColon k) = ⊥
 RunFault n run (NoName k) = ⊥
-RunFault n run (NotANumber k found) = (k ≡ n) × PieceAt NoNumber run (string_bytes found)
-RunFault n run (TooLarge k found) = (k ≡ n) × PieceAt WideNumber run (string_bytes found)
+RunFault n run (NotAWord k found why) = (k ≡ n) × PieceAt why run (string_bytes found)
 RunFault n run (NameTwice k name before) = ⊥
 RunFault n run (NotUtf8 k) = ⊥
 RunFault n run Memory = Unit {0}
@@ -61,8 +59,7 @@ RunAs n run (Err f) = RunFault n run f
 abbrev pub LineFault : ℕ → List ℕ → TableFault → Type 0
 LineFault n bs (NoColon k) = (k ≡ n) × LacksByte 58 bs
 LineFault n bs (NoName k) = (k ≡ n) × ((front : List ℕ) × (run : List ℕ) × Parted bs front run × Blanks true front)
-LineFault n bs (NotANumber k found) = (front : List ℕ) × (run : List ℕ) × Parted bs front run × RunFault n run (NotANumber k found)
-LineFault n bs (TooLarge k found) = (front : List ℕ) × (run : List ℕ) × Parted bs front run × RunFault n run (TooLarge k found)
+LineFault n bs (NotAWord k found why) = (front : List ℕ) × (run : List ℕ) × Parted bs front run × RunFault n run (NotAWord k found why)
 LineFault n bs (NameTwice k name before) = ⊥
 LineFault n bs (NotUtf8 k) = ⊥
 LineFault n bs Memory = Unit {0}
@@ -73,12 +70,11 @@ LineAs n bs (Ok None) = skipped bs ≡ true
 LineAs n bs (Ok (Some e)) = (skipped bs ≡ false) × RuleAt n bs e
 LineAs n bs (Err f) = (skipped bs ≡ false) × LineFault n bs f
 
--- the fault that a piece p of line n gives, where p is no number or too large a one
+-- the fault that a piece p of line n gives, where p is no word for the reason w
 abbrev pub PieceFault : ℕ → List ℕ → WordFault → TableFault → Type 0
 PieceFault n p w (NoColon k) = ⊥
 PieceFault n p w (NoName k) = ⊥
-PieceFault n p w (NotANumber k found) = (w ≡ words.NotANumber) × (k ≡ n) × Shown p (string_bytes found)
-PieceFault n p w (TooLarge k found) = (w ≡ words.TooLarge) × (k ≡ n) × Shown p (string_bytes found)
+PieceFault n p w (NotAWord k found why) = (w ≡ why) × (k ≡ n) × Shown p (string_bytes found)
 PieceFault n p w (NameTwice k name before) = ⊥
 PieceFault n p w (NotUtf8 k) = ⊥
 PieceFault n p w Memory = Unit {0}
@@ -92,8 +88,7 @@ PieceRead n p (Err f) = (why : WordFault) × ReadAs p (Err why) × PieceFault n 
 abbrev pub line_of : TableFault → Option ℕ
 line_of (NoColon k) = Some k
 line_of (NoName k) = Some k
-line_of (NotANumber k found) = Some k
-line_of (TooLarge k found) = Some k
+line_of (NotAWord k found why) = Some k
 line_of (NameTwice k name before) = Some k
 line_of (NotUtf8 k) = Some k
 line_of Memory = None

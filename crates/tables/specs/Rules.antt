@@ -1,13 +1,12 @@
 -- The rules that a whole table holds. Assumes nothing.
 use Rattle.std.specs.Prelude.{◌≡◌, ℕ, ◌+◌, ◌<◌, false, cond, ◌⊎◌, List, [], ◌∷◌, ◌++◌, length, get_or, take, IfErr, Option, Some, None, Ok, Err, vec_items, string_bytes, IsUtf8, MatchBool, Result, Vec, String, ◌==◌, ◌≢◌, slice_index_or}
 use Rattle.std.specs.Borrow.{Bor}
-use Rattle.std.specs.BTreeMap.{get_by_text, IsOrdered}
+use Rattle.std.specs.BTreeMap.{get_by_text}
 use Rattle.std.specs.Str.{IsValidUpTo, bytes_eq}
-use Rattle.std.specs.String.{string_cmp}
 use Rattle.std.specs.BTreeMap.{BTreeMap}
 use Rattle.tables.specs.declared.fault.BadUtf8.{BadUtf8}
 use Rattle.tables.specs.declared.fault.TableFault.{TableFault}
-use Rattle.tables.specs.declared.fault.TableFault.TheVariants.{NoColon, NoName, NameTwice, NotANumber, TooLarge, NotUtf8, Memory}
+use Rattle.tables.specs.declared.fault.TableFault.TheVariants.{NoColon, NoName, NameTwice, NotAWord, NotUtf8, Memory}
 use Rattle.tables.specs.declared.line.Entry.{Entry}
 use Rattle.tables.specs.Lines.{content, skipped, RuleAt, Shown, LineFault}
 
@@ -41,8 +40,7 @@ Stands es name line = (i : ℕ) × (i < length es) × ((d : Entry) → (name_of 
 abbrev pub FaultAfter : List Entry → ℕ → List ℕ → TableFault → Type 0
 FaultAfter es n bs (NoColon k) = LineFault n bs (NoColon k)
 FaultAfter es n bs (NoName k) = LineFault n bs (NoName k)
-FaultAfter es n bs (NotANumber k found) = LineFault n bs (NotANumber k found)
-FaultAfter es n bs (TooLarge k found) = LineFault n bs (TooLarge k found)
+FaultAfter es n bs (NotAWord k found why) = LineFault n bs (NotAWord k found why)
 FaultAfter es n bs (NameTwice k name before) = (k ≡ n) × ((e : Entry) × RuleAt n bs e × Shown (name_of e) (string_bytes name) × Stands es (name_of e) before)
 FaultAfter es n bs (NotUtf8 k) = ⊥
 FaultAfter es n bs Memory = ⊥
@@ -82,15 +80,14 @@ module _ {Y : Type 0} where
   abbrev pub NameFault : BTreeMap (String Y) ℕ → Entry → TableFault → Type 0
   NameFault m e (NoColon k) = ⊥
   NameFault m e (NoName k) = ⊥
-  NameFault m e (NotANumber k found) = ⊥
-  NameFault m e (TooLarge k found) = ⊥
+  NameFault m e (NotAWord k found why) = ⊥
   NameFault m e (NameTwice k name before) = (k ≡ e.line) × (get_by_text m (name_of e) ≡ Some before) × Shown (name_of e) (string_bytes name)
   NameFault m e (NotUtf8 k) = ⊥
   NameFault m e Memory = Unit {0}
 
-  -- n has w at the name bs, and at each other name what m has; its names are in order
+  -- n has w at the name bs, and at each other name what m has
   abbrev pub SetsText : BTreeMap (String Y) ℕ → BTreeMap (String Y) ℕ → List ℕ → Option ℕ → Type 0
-  SetsText m n bs w = IsOrdered string_cmp n × ((v : List ℕ) → get_by_text n v ≡ cond (bytes_eq v bs) w (get_by_text m v))
+  SetsText m n bs w = (v : List ℕ) → get_by_text n v ≡ cond (bytes_eq v bs) w (get_by_text m v)
 
   -- what it answers to note the line of e at its name in m, which is n then
   abbrev pub NotedAs : {U : Type 0} → BTreeMap (String Y) ℕ → BTreeMap (String Y) ℕ → Entry → Result U TableFault → Type 0

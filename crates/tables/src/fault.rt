@@ -3,6 +3,7 @@ ghost use Rattle.std.specs.Prelude.{◌≡◌, IfOk, string_bytes};
 ghost use Rattle.tables.specs.Lines.{Shown, line_of};
 ghost use Rattle.tables.specs.declared.fault.TableFault.TheVariants.{Memory, NotUtf8};
 
+use crate::word::WordFault;
 use std::alloc::{AllocError, AllocFailed, Global};
 use std::fmt;
 
@@ -19,13 +20,10 @@ pub enum TableFault {
         name: String,
         before: usize,
     },
-    NotANumber {
+    NotAWord {
         line: usize,
         found: String,
-    },
-    TooLarge {
-        line: usize,
-        found: String,
+        fault: WordFault,
     },
     NotUtf8 {
         line: usize,
@@ -47,7 +45,8 @@ impl From<BadUtf8> for TableFault {
     }
 }
 
-// Kept: `?` asks for an impl for each error that it converts.
+// Kept: `?` asks for an impl for each error that it converts, here and for the fault of a script. One macro for both is
+// refused, since no impl may come of a macro of the repository, and the `From` that `thiserror` derives has no contract.
 impl From<AllocError> for TableFault {
     ghost from_gives = { λ _ r. r ≡ Memory };
 
@@ -73,8 +72,7 @@ impl TableFault {
             TableFault::NoColon { line }
             | TableFault::NoName { line }
             | TableFault::NameTwice { line, .. }
-            | TableFault::NotANumber { line, .. }
-            | TableFault::TooLarge { line, .. }
+            | TableFault::NotAWord { line, .. }
             | TableFault::NotUtf8 { line } => Some(*line),
             TableFault::Memory => None,
         }
@@ -92,7 +90,7 @@ impl fmt::Display for TableFault {
                     "expected a new name, found {name:?}, which stands at line {before}"
                 )
             }
-            TableFault::NotANumber { found, .. } | TableFault::TooLarge { found, .. } => {
+            TableFault::NotAWord { found, .. } => {
                 write!(f, "expected a number from 0 to 4294967295, found {found:?}")
             }
             TableFault::NotUtf8 { .. } => f.write_str("expected UTF-8 text"),

@@ -45,30 +45,36 @@ impl Line {
         ensures { PieceFault self.number piece.now fault result }
     {
         let line = self.number;
-        shown(self.heap, piece).map_or(TableFault::Memory, |found| match fault {
-            WordFault::NotANumber => TableFault::NotANumber { line, found },
-            WordFault::TooLarge => TableFault::TooLarge { line, found },
-        })
+        shown(self.heap, piece).map_or(
+            TableFault::Memory,
+            |found| TableFault::NotAWord { line, found, fault },
+        )
     }
 }
 
 // The rule that a line holds, or `None` at a line that is empty or a comment.
-pub fn read_line(heap: Global, text: &str, line: usize) -> Result<Option<Entry>, TableFault>
-    ensures reads { LineAs line (content text.now) result }
-    ensures keeps { KeepsRules line (content text.now) result }
+pub fn read_line(line: Line, text: &str) -> Result<Option<Entry>, TableFault>
+    ensures reads { LineAs line.number (content text.now) result }
+    ensures keeps { KeepsRules line.number (content text.now) result }
 {
     let content = before_return(text);
     if is_skipped(content) {
         return Ok(None);
     }
-    let (front, run) = content.split_once(':').ok_or(TableFault::NoColon { line })?;
+    let (front, run) = content
+        .split_once(':')
+        .ok_or(TableFault::NoColon { line: line.number })?;
     let name = trim_blanks(front);
     if name.is_empty() {
-        return Err(TableFault::NoName { line });
+        return Err(TableFault::NoName { line: line.number });
     }
-    let words = Line { heap, number: line }.words(run)?;
-    let name = String::from_str(heap, name)?;
-    Ok(Some(Entry { name, words, line }))
+    let words = line.words(run)?;
+    let name = String::from_str(line.heap, name)?;
+    Ok(Some(Entry {
+        name,
+        words,
+        line: line.number,
+    }))
 }
 
 // A line without the carriage return that may end it.

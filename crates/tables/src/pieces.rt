@@ -17,13 +17,6 @@ impl<'a> Pieces<'a> {
     {
         Pieces { rest: text }
     }
-
-    // What follows the pieces that were given.
-    pub fn rest(&self) -> &'a str
-        ensures { result.now ≡ left self.now }
-    {
-        self.rest
-    }
 }
 
 impl<'a> Iterator for Pieces<'a> {

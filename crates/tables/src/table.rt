@@ -1,11 +1,9 @@
 // A table, line by line.
 ghost use Rattle.std.specs.Prelude.{◌≡◌, ◌≤◌, length, take, IsUtf8};
-ghost use Rattle.std.specs.BTreeMap.{IsOrdered};
-ghost use Rattle.std.specs.String.{string_cmp};
 ghost use Rattle.tables.specs.Rules.{lines, BytesAs, KeepsTables, NotedAs, TableAs, TextAs};
 
 use crate::fault::{BadUtf8, TableFault, shown};
-use crate::line::{Entry, read_line};
+use crate::line::{Entry, Line, read_line};
 use std::alloc::Global;
 use std::collections::BTreeMap;
 use std::str::from_utf8;
@@ -42,8 +40,13 @@ pub fn read_table(heap: Global, text: &str) -> Result<Vec<Entry>, TableFault>
 {
     let mut entries = Vec::new(heap);
     let mut seen = BTreeMap::new(heap);
+    // Kept: `str::lines` gives no last empty line, and leaves the return of a last line that no line feed ends.
     for (i, row) in text.split('\n').enumerate() {
-        if let Some(entry) = read_line(heap, row, i + 1)? {
+        let line = Line {
+            heap,
+            number: i + 1,
+        };
+        if let Some(entry) = read_line(line, row)? {
             note_name(heap, &mut seen, &entry)?;
             entries.push(entry)?;
         }
@@ -52,21 +55,21 @@ pub fn read_table(heap: Global, text: &str) -> Result<Vec<Entry>, TableFault>
 }
 
 // Notes at which line a name stands, and refuses one that stood before.
-// Kept: `entry` takes a key of its own, so it would copy a name that is refused too.
 fn note_name(
     heap: Global,
     seen: &mut BTreeMap<String, usize>,
     entry: &Entry,
 ) -> Result<(), TableFault>
-    requires { IsOrdered string_cmp seen.old }
     ensures { NotedAs seen.old seen.new entry.now result }
 {
     let name = entry.name.as_str();
     let line = entry.line;
-    if let Some(before) = seen.get(name).copied() {
-        let name = shown(heap, name)?;
-        return Err(TableFault::NameTwice { line, name, before });
+    match seen.insert(String::from_str(heap, name)?, line)? {
+        None => Ok(()),
+        Some(before) => Err(TableFault::NameTwice {
+            line,
+            name: shown(heap, name)?,
+            before,
+        }),
     }
-    seen.insert(String::from_str(heap, name)?, line)?;
-    Ok(())
 }

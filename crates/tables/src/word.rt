@@ -2,6 +2,7 @@
 ghost use Rattle.std.specs.Prelude.{◌≡◌, ℕ, ◌^◌, ◌<◌, ◌≤◌, Ok};
 ghost use Rattle.tables.specs.Numerals.{Writes, ReadAs, DigitsAs};
 
+// Why a text is no word.
 #[derive(Clone, Copy, Debug, PartialEq, Eq)]
 pub enum WordFault {
     NotANumber,

@@ -1,8 +1,8 @@
-use Rattle.std.proofs.Common.{◌≡◌, ◌+◌, false, ◌⊎◌, [], ◌∷◌, is_ok, Some, None, vec_items, sym, ap, ◌∙◌, subst}
+use Rattle.std.proofs.Common.{◌≡◌, ◌+◌, false, ◌⊎◌, ◌∷◌, is_ok, Some, None, vec_items, sym, ap, ◌∙◌, subst}
 use Rattle.std.specs.Iterator.Adapters.{enumerate_count}
 use Rattle.std.proofs.ResultArms.{chosen}
 use Rattle.tables.specs.Lines.{content, skipped}
-use Rattle.tables.proofs.Rows.{AtFeeds, next_row, no_row, rows_left}
+use Rattle.tables.proofs.Rows.{AtFeeds, next_row, rows_left}
 use Rattle.scripts.specs.Calls.{CallAs, told, told_all}
 use Rattle.scripts.specs.Headings.{HeadingAs}
 use Rattle.scripts.specs.Readings.{line_of, NoneIs, Sole}
@@ -10,7 +10,7 @@ use Rattle.scripts.specs.Scripts.{limit_of}
 use Rattle.scripts.specs.declared.fault.ScriptFault.TheVariants.{Memory}
 use Rattle.scripts.proofs.Rows.{Sofar, again-told, call-stops, heading-line, heading-stops, lines-handed, skip-line}
 use Rattle.scripts.proofs.script.read_lines.Goals as goal
-use Rattle.scripts.proofs.script.read_lines.Goals.{In-Some, In-None, Else-is_skipped, In-None-headed, In-Some-headed}
+use Rattle.scripts.proofs.script.read_lines.Goals.{In-Some, Else-is_skipped, In-None-headed, In-Some-headed}
 
 -- the invariant where the next line is in hand
 at_row : (c : In-Some) → Sofar c.args.text.now (c.in-Some.row.now ∷ rows_left c.next.new.self) c.in-Some.i c.loop-i.headed (told_all (vec_items c.loop-i.calls))
@@ -24,12 +24,6 @@ feeds c = (next_row c.loop-i.i-iterator c.next.new.self c.in-Some.i c.in-Some.ro
 
 counted : (c : In-Some) → enumerate_count c.next.new.self ≡ c.in-Some.i + 1
 counted c = (next_row c.loop-i.i-iterator c.next.new.self c.in-Some.i c.in-Some.row c.loop-i.invariant.2 c.in-Some.ensures.steps).3
-
--- and where no line is left
-at-end : (c : In-None) → Sofar c.args.text.now [] (enumerate_count c.loop-i.i-iterator) c.loop-i.headed (told_all (vec_items c.loop-i.calls))
-at-end c =
-    subst (λ ls. Sofar c.args.text.now ls (enumerate_count c.loop-i.i-iterator) c.loop-i.headed (told_all (vec_items c.loop-i.calls)))
-    (no_row c.loop-i.i-iterator c.next.new.self c.in-None.ensures.steps) c.loop-i.invariant.3
 
 pub loop-i-preserved-then-is_skipped : goal.loop-i-preserved-then-is_skipped
 loop-i-preserved-then-is_skipped c =

@@ -22,10 +22,10 @@ parted c =
     record { whole = parts.0; first = parts.1 }
 
 -- what is read, and that no rule is refused
-kept : (c : Else-is_skipped) (r : Result (Option Entry) TableFault) → LineAs c.args.line c.before_return-content.result.now r → LineAs c.args.line (content c.args.text.now) r × KeepsRules c.args.line (content c.args.text.now) r
+kept : (c : Else-is_skipped) (r : Result (Option Entry) TableFault) → LineAs c.args.line.number c.before_return-content.result.now r → LineAs c.args.line.number (content c.args.text.now) r × KeepsRules c.args.line.number (content c.args.text.now) r
 kept c r h =
-    let told = subst (λ bs. LineAs c.args.line bs r) c.before_return-content.ensures h in
-    (told, keeps-rules c.args.line (content c.args.text.now) r told)
+    let told = subst (λ bs. LineAs c.args.line.number bs r) c.before_return-content.ensures h in
+    (told, keeps-rules c.args.line.number (content c.args.text.now) r told)
 
 pub returns-in_err-front : goal.returns-in_err-front
 returns-in_err-front c =
@@ -33,15 +33,15 @@ returns-in_err-front c =
     let at = goal.at.returns-in_err-front c in
     let found = split_parts 58 c.before_return-content.result.now c.split_once.result c.split_once.ensures.cases (lit< tt) in
     let none = rw c.in_err-front.ensures.ok_part at found in
-    let why = given-error c.split_once.result c.in_err-front.field-0.0 (NoColon c.args.line) c.in_err-front.ensures.ok_part c.in_err-front.ensures.value in
+    let why = given-error c.split_once.result c.in_err-front.field-0.0 (NoColon c.args.line.number) c.in_err-front.ensures.ok_part c.in_err-front.ensures.value in
     let both = kept at.Else-is_skipped c.from_residual.result
-    (subst (LineAs c.args.line c.before_return-content.result.now) (sym (p.1 ∙ ap Err (p.2 ∙ why))) (plain at.Else-is_skipped, (refl, none))) in
+    (subst (LineAs c.args.line.number c.before_return-content.result.now) (sym (p.1 ∙ ap Err (p.2 ∙ why))) (plain at.Else-is_skipped, (refl, none))) in
     record { reads = both.0; keeps = both.1 }
 
 pub returns-then-is_empty : goal.returns-then-is_empty
 returns-then-is_empty c =
     let at = goal.at.returns-then-is_empty c in
-    let both = kept at.Else-is_skipped (Err (NoName c.args.line))
+    let both = kept at.Else-is_skipped (Err (NoName c.args.line.number))
     (plain at.Else-is_skipped, (refl, (_, _, parted at.In_ok-front, all-blank _ _ c.trim_blanks-name.ensures (true-eqb _ 0 c.if-is_empty.ensures)))) in
     record { reads = both.0; keeps = both.1 }
 
@@ -51,8 +51,8 @@ returns-in_err-words c =
     let at = goal.at.returns-in_err-words c in
     let f = c.in_err-words.field-0.0 in
     let both = kept at.Else-is_skipped c.from_residual-in_err-words.result
-    (subst (LineAs c.args.line c.before_return-content.result.now) (sym (p.1 ∙ ap Err p.2))
-    (plain at.Else-is_skipped, line-fault c.args.line _ _ _ f (parted at.In_ok-front) c.in_err-words.ensures)) in
+    (subst (LineAs c.args.line.number c.before_return-content.result.now) (sym (p.1 ∙ ap Err p.2))
+    (plain at.Else-is_skipped, line-fault c.args.line.number _ _ _ f (parted at.In_ok-front) c.in_err-words.ensures)) in
     record { reads = both.0; keeps = both.1 }
 
 pub returns : goal.returns
@@ -60,7 +60,7 @@ returns c =
     let name = IfOk-at_ok (λ s. string_bytes s ≡ c.trim_blanks-name.result.now) c.in_ok-name.was c.from_str.ensures.ok in
     let some : 0 < length c.trim_blanks-name.result.now = omega (arith, false-eqb _ 0 c.if-is_empty.ensures) in
     let at = goal.at.returns c in
-    let entry : Entry = record { name = c.in_ok-name.name; words = c.in_ok-words.words; line = c.args.line } in
+    let entry : Entry = record { name = c.in_ok-name.name; words = c.in_ok-words.words; line = c.args.line.number } in
     let both = kept at.Else-is_skipped (Ok (Some entry)) (
       plain at.Else-is_skipped,
       record {
