@@ -1,10 +1,9 @@
-ghost use Rattle.std.specs.Prelude.{◌≡◌, ℕ, ◌+◌, ◌<◌, ◌≤◌, ◌==◌, length, OnOk, IfErr};
+ghost use Rattle.std.specs.Prelude.{◌≡◌, ◌+◌, ◌<◌, ◌≤◌, ◌==◌, length, OnOk, IfErr};
 ghost use Rattle.rule.specs.Trees.{tree_at};
 ghost use Rattle.rule.specs.Scopes.{role};
 ghost use Rattle.rule.specs.Marks.{size, steps, end, end_of, ends, at_declaration, at_use, note, note_all, Says};
 ghost use Rattle.rule.specs.Intake.{Scoped};
 
-use crate::codes::BINDING;
 use crate::fault::Fault;
 use crate::nodes::Node;
 use crate::tree::RuleTree;
@@ -73,6 +72,7 @@ fn use_local(local: u32, place: usize, marks: &mut [Mark; MOST_LOCALS]) -> Resul
 }
 
 // What a node does with a local: a binding declares one, a path to a local uses one.
+#[tactic(auto, unfolding(crate::specs::Marks::note, crate::specs::Scopes::role))]
 fn note_node(
     node: Node,
     place: usize,
@@ -83,12 +83,12 @@ fn note_node(
     requires few { until ≤ 2048 }
     ensures { Says result (ends marks.new) (note place (role node.entry.code node.entry.v node.entry.w) until (ends marks.old)) }
 {
-    if node.code == BINDING {
-        return declare(node.v, until, marks);
-    }
-    match node.local() {
-        Some(local) => use_local(local, place, marks),
-        None => Ok(()),
+    if let Some(local) = node.declared() {
+        declare(local, until, marks)
+    } else if let Some(local) = node.local() {
+        use_local(local, place, marks)
+    } else {
+        Ok(())
     }
 }
 
