@@ -1,17 +1,11 @@
 -- The walk of a node, child by child.
-use Rattle.std.proofs.Common.{◌≡◌, ℕ, suc, ◌+◌, ◌-◌, ◌<◌, ◌≤◌, Bool, true, false, cond, ◌&&◌, eqb, List, length, get_or, Some, None, Result, sym, refl, ap, ◌∙◌, subst, arith}
-use Rattle.std.proofs.lemmas.Bool.{eq-eqb, ne_eqb, cond-true, cond-false}
+use Rattle.std.proofs.Common.{◌≡◌, ℕ, suc, ◌+◌, ◌-◌, ◌<◌, ◌≤◌, Bool, List, length, get_or, Result, sym, ap, ◌∙◌, subst, arith}
 use Rattle.rule.specs.declared.fault.Fault.{Fault}
-use Rattle.rule.specs.declared.nodes.Node.{Node}
-use Rattle.rule.specs.Nodes.{local_of}
 use Rattle.rule.specs.Run.{kids_at, code_at, v_at, w_at}
 use Rattle.rule.specs.Trees.{Tree, nil, cons, stub, kids_of, node_of, trees_of, tree_at}
-use Rattle.rule.specs.Scopes.{declares, uses, plain, role, compares}
-use Rattle.rule.specs.Marks.{size, size_all, steps, steps_all, end_of, Marked, broken, marked, and_then, at_declaration, at_use, note, note_all, Says}
+use Rattle.rule.specs.Scopes.{role, compares}
+use Rattle.rule.specs.Marks.{size, size_all, steps, steps_all, end_of, broken, marked, and_then, note, note_all, Says}
 use Rattle.rule.proofs.Noted.{note-node, note-cons}
-
-says_of : {X : Type 0} (r : Result X Fault) (m : List ℕ) (o o' : Marked) → o ≡ o' → Says r m o → Says r m o'
-says_of r m o o' e s = subst (λ z. Says r m z) e s
 
 ---- the children of a node, one after the other
 
@@ -112,4 +106,4 @@ module _ (ws : List ℕ) (i o place until : ℕ) (m₀ : List ℕ) (e : tree_at 
       let g = walk-node
       ∙ ap (λ z. and_then z (note (place + size_all (kids_of (trees_of ws) ws (o + 4) (kids_at ws o))) (role (code_at ws o) (v_at ws o) (w_at ws o)) until)) h'
       ∙ ap (λ z. note z (role (code_at ws o) (v_at ws o) (w_at ws o)) until m) (sym k) in
-      says_of r m' _ _ (sym g) s
+      subst (λ z. Says r m' z) (sym g) s
