@@ -178,18 +178,13 @@ pub(crate) fn read_nodes(words: &[u32]) -> Result<Nodes, Fault>
         return Err(Fault::CutShort);
     }
     let mut at = ArrayVec::new();
-    let mut place = 0;
-    // Kept: the places are what it finds, and no two nodes need be of one length.
-    while place < words.len() {
-        if words.len() - place < 4 {
+    let mut rest = words;
+    while !rest.is_empty() {
+        let [_, _, _, kids, behind @ ..] = rest else {
             return Err(Fault::CutShort);
-        }
-        let kids = words[place + 3] as usize;
-        if words.len() - place - 4 < kids {
-            return Err(Fault::CutShort);
-        }
-        at.push(place as u16);
-        place += 4 + kids;
+        };
+        at.push((words.len() - rest.len()) as u16);
+        rest = behind.get(*kids as usize..).ok_or(Fault::CutShort)?;
     }
     Ok(Nodes { at })
 }
