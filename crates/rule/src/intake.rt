@@ -23,7 +23,7 @@ pub fn intake(words: &[u32]) -> Result<Nodes, Fault>
     let sizes = check_tree(rule)?;
     let tree = RuleTree {
         rule,
-        sizes: &sizes,
+        sizes: sizes.as_slice(),
     };
     check_classes(tree)?;
     check_scopes(tree)?;
