@@ -1,4 +1,4 @@
-ghost use Rattle.std.specs.Prelude.{◌≡◌, ◌+◌, ◌<◌, true, length};
+ghost use Rattle.std.specs.Prelude.{◌≡◌, ◌<◌, true, length};
 ghost use Rattle.rule.specs.Format.{format, within, serves, admits, admitted};
 ghost use Rattle.rule.specs.Lookup.{takes, row_of, behind, front_at, enough, place_of, root, placed};
 
