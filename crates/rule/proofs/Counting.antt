@@ -1,8 +1,8 @@
 -- Counting children and adding up sizes, one child after the other.
-use Rattle.std.proofs.Common.{◌≡◌, ℕ, zero, suc, ◌+◌, ◌<◌, ◌≤◌, cond, eqb, List, [], ◌∷◌, ◌++◌, length, get_or, drop, set, sum_by, count_by, sym, refl, ap, ◌∙◌, subst, arith}
-use Rattle.std.proofs.lemmas.Bool.{eq-eqb, ne_eqb, cond-true, cond-false}
+use Rattle.std.proofs.Common.{◌≡◌, ℕ, zero, suc, ◌+◌, ◌<◌, ◌≤◌, cond, eqb, List, [], ◌∷◌, ◌++◌, length, get_or, drop, set, replicate, sum_by, count_by, sym, refl, ap, ◌∙◌, subst, ⊎_elim, arith}
+use Rattle.std.proofs.lemmas.Bool.{cases_lt, eq-eqb, ne_eqb, cond-true, cond-false}
 use Rattle.std.proofs.lemmas.List.Sums.{sum_by-cons}
-use Rattle.std.proofs.lemmas.List.{drop_more, drop_all}
+use Rattle.std.proofs.lemmas.List.{drop_more, drop_all, get_or-replicate, get_or_past, length-replicate}
 use Rattle.rule.specs.Run.{standing, child_of, kids_at}
 use Rattle.rule.specs.Tally.{loose}
 use Rattle.rule.specs.declared.nodes.Node.{Node}
@@ -110,3 +110,7 @@ child-more x ws os i h = ap (child_of x ws) (drop_more os i 0 h)
 pub child-end : (x : ℕ) (ws os : List ℕ) (i : ℕ) → length os ≤ i → child_of x ws (drop i os) ≡ 0
 unfolding child_of
 child-end x ws os i h = ap (child_of x ws) (drop_all i os h)
+
+-- all zeros
+pub zeros : (n x : ℕ) → ◌≡◌ {A = ℕ} (get_or (replicate n 0) x 0) 0
+zeros n x = ⊎_elim (λ (h : x < n). get_or-replicate n x 0 0 h) (λ (h : n ≤ x). get_or_past (replicate n 0) x 0 (simp length-replicate (omega arith))) (cases_lt x n)

@@ -16,7 +16,7 @@ pub(crate) struct RuleTree<'w, 'p, 's> {
     ghost count: { length sizes.now ≡ length rule.at.now },
 }
 
-// Counts the children of the node behind those with these sizes as seen, and answers how many nodes its tree has.
+// Counts the children of the next node as seen, and answers how many nodes its tree has; the sizes are those before it.
 fn add_kids(node: Node, seen: &mut [bool; MOST_NODES], sizes: &[u16]) -> Result<usize, Fault>
     requires inside { length sizes.now < 2048 }
     requires few { loose (flags seen.old) sizes.now ≤ 2048 }
