@@ -22,16 +22,19 @@ behind_all : (rest : List ℕ) → words_behind rest ≡ drop 4 rest
 unfolding words_behind
 behind_all rest = take_all (length rest - 4) (drop 4 rest) (omega (arith, length-drop 4 rest))
 
+-- where fewer than the k children of the node at hand are left, the node ends behind the run
 no-more : (rest : List ℕ) (k : ℕ) (r : Option (Bor (List ℕ))) → 4 ≤ length rest → IsGetRangeResult (words_behind rest) k (length (words_behind rest)) r → false ≡ is_some r → length rest < 4 + k
 no-more rest k None h g e = ⊎_elim (λ (a : length (words_behind rest) < k). omega (arith, ap length (behind_all rest), length-drop 4 rest)) (λ (b : length (words_behind rest) < length (words_behind rest)). absurd (omega arith)) g.0
 no-more rest k (Some x) h g e = absurd (false≢true e)
 
+-- and else the rest begins behind them
 one-more : (rest : List ℕ) (k : ℕ) (x : Bor (List ℕ)) → 4 ≤ length rest → IsGetRangeResult (words_behind rest) k (length (words_behind rest)) (Some x) → (4 + k ≤ length rest) × (x.now ≡ drop (4 + k) rest)
 one-more rest k x h g =
     let b = words_behind rest in
     let a : k ≤ length b = g.0.0 in
     (omega (arith, a, ap length (behind_all rest), length-drop 4 rest), g.0.2 ∙ take_all (length b - k) (drop k b) (omega (arith, length-drop k b)) ∙ ap (drop k) (behind_all rest) ∙ drop-drop k 4 rest)
 
+-- a place that is not there is a run cut short
 cut-short : {X : Type 0} (r : Option X) (f : Fault) → Err f ≡ ok_or r CutShort → f ≡ CutShort
 cut-short None f e = cc
 cut-short (Some x) f e = cc
