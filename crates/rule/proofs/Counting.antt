@@ -1,6 +1,6 @@
 -- Counting children and adding up sizes, one child after the other.
-use Rattle.std.proofs.Common.{◌≡◌, ℕ, zero, suc, ◌+◌, ◌<◌, ◌≤◌, cond, eqb, List, [], ◌∷◌, length, get_or, drop, set, replicate, sum_by, count_by, sym, refl, ap, ◌∙◌, subst, ⊎_elim, arith}
-use Rattle.std.proofs.lemmas.Bool.{cases_eq, cases_lt, eq-eqb, ne_eqb, cond-true, cond-false}
+use Rattle.std.proofs.Common.{◌≡◌, ℕ, zero, suc, ◌+◌, ◌<◌, ◌≤◌, cond, eqb, List, [], ◌∷◌, ◌++◌, length, get_or, drop, set, replicate, sum_by, count_by, sym, refl, ap, ◌∙◌, subst, ⊎_elim, arith}
+use Rattle.std.proofs.lemmas.Bool.{cases_lt, eq-eqb, ne_eqb, cond-true, cond-false}
 use Rattle.std.proofs.lemmas.List.Sums.{sum_by-cons}
 use Rattle.std.proofs.lemmas.List.{drop_more, drop_all, get_or-replicate, get_or_past, length-replicate}
 use Rattle.rule.specs.Run.{standing, child_of, kids_at}
@@ -88,25 +88,19 @@ loose-taken (a ∷ seen) (b ∷ sizes) zero h l e =
     omega arith
 loose-taken (a ∷ seen) (b ∷ sizes) (suc x) h l e = omega (arith, loose-taken seen sizes x (omega arith) (omega arith) e)
 
--- a node that is no child gets its size
-pub loose-sized : (seen sizes : List ℕ) (x n : ℕ) → x < length seen → x < length sizes → get_or seen x 0 ≡ 0 → get_or sizes x 0 ≡ 0 → loose seen (set sizes x n) ≡ loose seen sizes + n
+pub loose-none : (seen : List ℕ) → loose seen [] ≡ 0
 unfolding loose
-loose-sized [] sizes x n h l e f = absurd (omega arith)
-loose-sized (a ∷ seen) [] x n h l e f = absurd (omega arith)
-loose-sized (a ∷ seen) (b ∷ sizes) zero n h l e f =
-    let k : cond (eqb a 0) b 0 ≡ b = cond-true (eqb a 0) b 0 (eq-eqb a 0 e) in
-    let m : cond (eqb a 0) n 0 ≡ n = cond-true (eqb a 0) n 0 (eq-eqb a 0 e) in
-    omega (arith, k, m, f)
-loose-sized (a ∷ seen) (b ∷ sizes) (suc x) n h l e f = omega (arith, loose-sized seen sizes x n (omega arith) (omega arith) e f)
+loose-none [] = refl
+loose-none (a ∷ seen) = refl
 
-pub loose-zero : (seen sizes : List ℕ) → ((x : ℕ) → get_or sizes x 0 ≡ 0) → loose seen sizes ≡ 0
+-- a node that is no child gets its size
+pub loose-pushed : (seen sizes : List ℕ) (n : ℕ) → length sizes < length seen → get_or seen (length sizes) 0 ≡ 0 → loose seen (sizes ++ (n ∷ [])) ≡ loose seen sizes + n
 unfolding loose
-loose-zero [] sizes h = refl
-loose-zero (a ∷ seen) [] h = refl
-loose-zero (a ∷ seen) (b ∷ sizes) h =
-    let e : b ≡ 0 = h 0 in
-    let k : cond (eqb a 0) b 0 ≡ 0 = ⊎_elim (λ (p : a ≡ 0). cond-true (eqb a 0) b 0 (eq-eqb a 0 p) ∙ e) (λ (p : a ≡ 0 → ⊥). cond-false (eqb a 0) b 0 (ne_eqb a 0 p)) (cases_eq a 0) in
-    omega (arith, loose-zero seen sizes (λ x. h (suc x)))
+loose-pushed [] sizes n h e = absurd (omega arith)
+loose-pushed (a ∷ seen) [] n h e =
+    let k : cond (eqb a 0) n 0 ≡ n = cond-true (eqb a 0) n 0 (eq-eqb a 0 e) in
+    omega (arith, k, loose-none seen)
+loose-pushed (a ∷ seen) (b ∷ sizes) n h e = omega (arith, loose-pushed seen sizes n (omega arith) e)
 
 -- the places of the nodes from i on
 pub child-more : (x : ℕ) (ws os : List ℕ) (i : ℕ) → i < length os → child_of x ws (drop i os) ≡ standing x ws (get_or os i 0 + 4) (kids_at ws (get_or os i 0)) + child_of x ws (drop (i + 1) os)

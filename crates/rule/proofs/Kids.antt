@@ -32,7 +32,7 @@ kid ws os sizes i q at place until b m₀ m n d w z h s l u k =
     omega (arith, size-node ws i (get_or os i 0) place until m₀ e, walking-size ws b place until (get_or os i 0 + 4) (kids_at ws (get_or os i 0)) m₀ m at q c k) in
     record { count = c; place = j; below = g; size_is = z.each _ a; ends = subst (λ x. at + size (tree_at ws x) < until) j f }
 
--- the end of the operand around a child is behind it, and not behind that of its node
-pub kid-end : (b : Bool) (at n m until within : ℕ) → n ≡ m → at + m < until → within ≡ end_of b (at + n) until → (at + m ≤ within) × (within ≤ until)
-kid-end true at n m until within e l f = (omega arith, omega arith)
-kid-end false at n m until within e l f = (omega arith, omega arith)
+-- a child ends within the operand around it
+pub kid-end : (b : Bool) (at n m until within : ℕ) → n ≡ m → at + m < until → within ≡ end_of b (at + n) until → at + m ≤ within
+kid-end true at n m until within e l f = omega arith
+kid-end false at n m until within e l f = omega arith

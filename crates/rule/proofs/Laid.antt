@@ -1,6 +1,6 @@
 -- The places of the nodes, found one node after the other.
-use Rattle.std.proofs.Common.{◌≡◌, ℕ, zero, suc, ◌+◌, ◌-◌, ◌<◌, ◌≤◌, List, [], ◌∷◌, ◌++◌, length, get_or, drop, sym, refl, ap, ◌∙◌, subst, ⊎_elim, arith, length-drop}
-use Rattle.std.proofs.lemmas.List.{drop_more, drop-drop, get_or-drop, drop_all, append_assoc, append-nil}
+use Rattle.std.proofs.Common.{◌≡◌, ℕ, zero, suc, ◌+◌, ◌-◌, ◌*◌, ◌<◌, ◌≤◌, List, [], ◌∷◌, ◌++◌, length, get_or, drop, sym, refl, ap, ◌∙◌, subst, ⊎_elim, arith, length-drop, length-append}
+use Rattle.std.proofs.lemmas.List.{drop_more, get_or-drop, append_assoc, append-nil}
 use Rattle.std.proofs.lemmas.Bool.{cases_lt}
 use Rattle.rule.specs.Intake.{Whole, Read, nodes, offset}
 use Rattle.rule.specs.Run.{lacks, starts, offsets, kids_at}
@@ -28,73 +28,59 @@ lacks-short (suc k) [] h = omega arith
 lacks-short zero (x ∷ xs) h = absurd (omega arith)
 lacks-short (suc k) (x ∷ xs) h = let l : length xs < k = omega arith in lacks-short k xs l
 
--- one node more, at the place p
-module _ (ws : List ℕ) (p : ℕ) (h : p < length ws) where
-  head : drop p ws ≡ get_or ws p 0 ∷ drop (p + 1) ws
-  head = drop_more ws p 0 h
+-- the node that begins a run, and what is behind it
+module _ (c : ℕ) (xs : List ℕ) where
+  behind : drop (4 + get_or xs 2 0) (c ∷ xs) ≡ drop (3 + get_or xs 2 0) xs
+  behind = let e : 4 + get_or xs 2 0 ≡ suc (3 + get_or xs 2 0) = omega arith in ap (λ n. drop n (c ∷ xs)) e
 
-  kids : get_or (drop (p + 1) ws) 2 0 ≡ kids_at ws p
-  kids = let e : p + 1 + 2 ≡ p + 3 = omega arith in get_or-drop (p + 1) ws 2 0 ∙ ap (λ n. get_or ws n 0) e
-
-  rest : length (drop (p + 1) ws) + p + 1 ≡ length ws
-  rest = let e : length (drop (p + 1) ws) ≡ length ws - (p + 1) = length-drop (p + 1) ws in omega arith
-
-  onward : drop (3 + kids_at ws p) (drop (p + 1) ws) ≡ drop (p + (4 + kids_at ws p)) ws
-  onward = let e : p + 1 + (3 + kids_at ws p) ≡ p + (4 + kids_at ws p) = omega arith in drop-drop (3 + kids_at ws p) (p + 1) ws ∙ ap (λ n. drop n ws) e
-
-  starts-head : starts p 0 (drop p ws) ≡ p ∷ starts (suc p) (3 + kids_at ws p) (drop (p + 1) ws)
+  starts-node : (p : ℕ) → 3 + get_or xs 2 0 ≤ length xs → starts p 0 (c ∷ xs) ≡ p ∷ starts (p + (4 + get_or xs 2 0)) 0 (drop (4 + get_or xs 2 0) (c ∷ xs))
   unfolding starts
-  starts-head = ap (starts p 0) head ∙ ap (λ n. p ∷ starts (suc p) (3 + n) (drop (p + 1) ws)) kids
+  starts-node p h =
+      let e : suc p + (3 + get_or xs 2 0) ≡ p + (4 + get_or xs 2 0) = omega arith in
+      ap (λ (l : List ℕ). p ∷ l) (starts-skip (suc p) (3 + get_or xs 2 0) xs h ∙ ap (λ n. starts n 0 (drop (3 + get_or xs 2 0) xs)) e ∙ ap (starts (p + (4 + get_or xs 2 0)) 0) (sym behind))
 
-  lacks-head : lacks 0 (drop p ws) ≡ lacks (3 + kids_at ws p) (drop (p + 1) ws)
+  lacks-node : 3 + get_or xs 2 0 ≤ length xs → lacks 0 (c ∷ xs) ≡ lacks 0 (drop (4 + get_or xs 2 0) (c ∷ xs))
   unfolding lacks
-  lacks-head = ap (lacks 0) head ∙ ap (λ n. lacks (3 + n) (drop (p + 1) ws)) kids
-
-  pub starts-node : p + (4 + kids_at ws p) ≤ length ws → starts p 0 (drop p ws) ≡ p ∷ starts (p + (4 + kids_at ws p)) 0 (drop (p + (4 + kids_at ws p)) ws)
-  starts-node l =
-      let r = rest in
-      let m : 3 + kids_at ws p ≤ length (drop (p + 1) ws) = omega arith in
-      let e : suc p + (3 + kids_at ws p) ≡ p + (4 + kids_at ws p) = omega arith in
-      starts-head ∙ ap (λ (l : List ℕ). p ∷ l) (starts-skip (suc p) (3 + kids_at ws p) (drop (p + 1) ws) m ∙ ap (λ n. starts n 0 (drop (3 + kids_at ws p) (drop (p + 1) ws))) e ∙ ap (starts (p + (4 + kids_at ws p)) 0) onward)
-
-  pub lacks-node : p + (4 + kids_at ws p) ≤ length ws → lacks 0 (drop p ws) ≡ lacks 0 (drop (p + (4 + kids_at ws p)) ws)
-  lacks-node l =
-      let r = rest in
-      let m : 3 + kids_at ws p ≤ length (drop (p + 1) ws) = omega arith in
-      lacks-head ∙ lacks-skip (3 + kids_at ws p) (drop (p + 1) ws) m ∙ ap (lacks 0) onward
+  lacks-node h = lacks-skip (3 + get_or xs 2 0) xs h ∙ ap (lacks 0) (sym behind)
 
   -- the node does not end within the run
-  pub lacks-some : length ws < p + (4 + kids_at ws p) → 0 < lacks 0 (drop p ws)
-  lacks-some l =
-      let r = rest in
-      let m : length (drop (p + 1) ws) < 3 + kids_at ws p = omega arith in
-      let k : 0 < lacks (3 + kids_at ws p) (drop (p + 1) ws) = lacks-short (3 + kids_at ws p) (drop (p + 1) ws) m in
-      subst (λ n. 0 < n) (sym lacks-head) k
+  lacks-some : length xs < 3 + get_or xs 2 0 → 0 < lacks 0 (c ∷ xs)
+  unfolding lacks
+  lacks-some h = lacks-short (3 + get_or xs 2 0) xs h
 
--- the places found so far, before those still to come
-pub record Found (ws os : List ℕ) (p : ℕ) : Type 0 where
-  pub places : offsets ws ≡ os ++ starts p 0 (drop p ws)
-  pub ended : lacks 0 ws ≡ lacks 0 (drop p ws)
+-- the places found so far, before those of the rest
+pub record Found (ws os rest : List ℕ) : Type 0 where
+  pub places : offsets ws ≡ os ++ starts (length ws - length rest) 0 rest
+  pub ended : lacks 0 ws ≡ lacks 0 rest
+  pub few : 4 * length os + length rest ≤ length ws
 
-pub found_none : (ws : List ℕ) → Found ws [] 0
+pub found_none : (ws : List ℕ) → Found ws [] ws
 unfolding offsets
-found_none ws = record { places = refl; ended = refl }
+found_none ws =
+    let e : length ws - length ws ≡ 0 = omega arith in
+    record { places = ap (λ p. starts p 0 ws) (sym e); ended = refl; few = omega arith }
 
-pub found-more : (ws os : List ℕ) (p : ℕ) → p < length ws → p + (4 + kids_at ws p) ≤ length ws → Found ws os p → Found ws (os ++ (p ∷ [])) (p + (4 + kids_at ws p))
-found-more ws os p l m f =
+pub found-more : (ws os rest : List ℕ) → 0 < length rest → 4 + get_or rest 3 0 ≤ length rest → Found ws os rest → Found ws (os ++ ((length ws - length rest) ∷ [])) (drop (4 + get_or rest 3 0) rest)
+found-more ws os [] l m f = absurd (omega arith)
+found-more ws os (c ∷ xs) l m f =
+    let p = length ws - length (c ∷ xs) in
+    let left = drop (4 + get_or xs 2 0) (c ∷ xs) in
+    let n : length left ≡ length (c ∷ xs) - (4 + get_or xs 2 0) = length-drop (4 + get_or xs 2 0) (c ∷ xs) in
+    let e : p + (4 + get_or xs 2 0) ≡ length ws - length left = omega (arith, f.few) in
     record {
-      places = f.places ∙ ap (λ (z : List ℕ). os ++ z) (starts-node ws p l m) ∙ sym (append_assoc os (p ∷ []) (starts (p + (4 + kids_at ws p)) 0 (drop (p + (4 + kids_at ws p)) ws)));
-      ended = f.ended ∙ lacks-node ws p l m;
+      places = f.places ∙ ap (λ (z : List ℕ). os ++ z) (starts-node c xs p (omega arith) ∙ ap (λ (z : List ℕ). p ∷ z) (ap (λ q. starts q 0 left) e)) ∙ sym (append_assoc os (p ∷ []) (starts (length ws - length left) 0 left));
+      ended = f.ended ∙ lacks-node c xs (omega arith);
+      few = omega (arith, f.few, length-append os (p ∷ []));
     }
 
-pub found_all : (ws os : List ℕ) (p : ℕ) → length ws ≤ p → Found ws os p → (os ≡ offsets ws) × (lacks 0 ws ≡ 0)
+pub found_all : (ws os rest : List ℕ) → length rest ≡ 0 → Found ws os rest → (os ≡ offsets ws) × (lacks 0 ws ≡ 0)
 unfolding starts lacks
-found_all ws os p h f =
-    let e : drop p ws ≡ [] = drop_all p ws h in
-    (sym (f.places ∙ ap (λ (z : List ℕ). os ++ starts p 0 z) e ∙ append-nil os), f.ended ∙ ap (lacks 0) e)
+found_all ws os [] h f = (sym (f.places ∙ append-nil os), f.ended)
+found_all ws os (x ∷ rest) h f = absurd (omega arith)
 
-pub found-cut : (ws os : List ℕ) (p : ℕ) → p < length ws → length ws < p + (4 + kids_at ws p) → Found ws os p → lacks 0 ws ≡ 0 → ⊥
-found-cut ws os p h l f e = let k = lacks-some ws p h l in omega (arith, f.ended)
+pub found-cut : (ws os rest : List ℕ) → 0 < length rest → length rest < 4 + get_or rest 3 0 → Found ws os rest → lacks 0 ws ≡ 0 → ⊥
+found-cut ws os [] h l f e = absurd (omega arith)
+found-cut ws os (c ∷ xs) h l f e = let k = lacks-some c xs (omega arith) in omega (arith, f.ended)
 
 ---- each node of a whole run lies within it
 
@@ -119,9 +105,9 @@ starts_fit ws (x ∷ xs) p zero zero e l h =
     let b : 3 + get_or xs 2 0 ≤ length xs = lacks-enough (3 + get_or xs 2 0) xs l in
     let s : suc p ≡ p + 1 = omega arith in
     let d : drop (p + 1) ws ≡ xs = ap (λ n. drop n ws) (sym s) ∙ t.1 in
-    let g : get_or xs 2 0 ≡ kids_at ws p = ap (λ (z : List ℕ). get_or z 2 0) (sym d) ∙ kids ws p t.0 in
-    let r = rest ws p t.0 in
-    let n : length (drop (p + 1) ws) ≡ length xs = ap length d in
+    let f : p + 1 + 2 ≡ p + 3 = omega arith in
+    let g : get_or xs 2 0 ≡ kids_at ws p = ap (λ (z : List ℕ). get_or z 2 0) (sym d) ∙ get_or-drop (p + 1) ws 2 0 ∙ ap (λ n. get_or ws n 0) f in
+    let n : length xs ≡ length ws - (p + 1) = ap length (sym d) ∙ length-drop (p + 1) ws in
     omega arith
 starts_fit ws (x ∷ xs) p zero (suc i) e l h =
     let t = drop-tail ws xs p x e in

@@ -1,44 +1,11 @@
--- What a node's words do to the marks, and the walk of a node child by child.
-use Rattle.std.proofs.Common.{◌≡◌, ℕ, suc, ◌+◌, ◌-◌, ◌<◌, ◌≤◌, Bool, true, false, cond, ◌&&◌, eqb, List, length, get_or, Some, None, Result, sym, refl, ap, ◌∙◌, subst, arith}
-use Rattle.std.proofs.lemmas.Bool.{eq-eqb, ne_eqb, cond-true, cond-false}
+-- The walk of a node, child by child.
+use Rattle.std.proofs.Common.{◌≡◌, ℕ, suc, ◌+◌, ◌-◌, ◌<◌, ◌≤◌, Bool, List, length, get_or, Result, sym, ap, ◌∙◌, subst, arith}
 use Rattle.rule.specs.declared.fault.Fault.{Fault}
-use Rattle.rule.specs.declared.nodes.Node.{Node}
-use Rattle.rule.specs.Nodes.{local_of}
 use Rattle.rule.specs.Run.{kids_at, code_at, v_at, w_at}
 use Rattle.rule.specs.Trees.{Tree, nil, cons, stub, kids_of, node_of, trees_of, tree_at}
-use Rattle.rule.specs.Scopes.{declares, uses, plain, role, compares}
-use Rattle.rule.specs.Marks.{size, size_all, steps, steps_all, end_of, Marked, broken, marked, and_then, at_declaration, at_use, note, note_all, Says}
+use Rattle.rule.specs.Scopes.{role, compares}
+use Rattle.rule.specs.Marks.{size, size_all, steps, steps_all, end_of, broken, marked, and_then, note, note_all, Says}
 use Rattle.rule.proofs.Noted.{note-node, note-cons}
-
-uses-of : (b : Bool) (w x : ℕ) → Some x ≡ cond b (Some w) None → cond b (uses w) plain ≡ uses x
-uses-of true w x e = cc
-uses-of false w x e = cc
-
-plain-of : (b : Bool) (w : ℕ) → None ≡ cond b (Some w) None → cond b (uses w) plain ≡ plain
-plain-of true w e = cc
-plain-of false w e = refl
-
-module _ (n : Node) (p u : ℕ) (m : List ℕ) where
-  pub note-declares : n.code ≡ 41 → note p (role n.code n.v n.w) u m ≡ at_declaration n.v u m
-  unfolding note role
-  note-declares e = ap (λ r. note p r u m) (cond-true (eqb n.code 41) (declares n.v) _ (eq-eqb n.code 41 e))
-
-  -- of a node that declares nothing
-  module _ (d : n.code ≡ 41 → ⊥) where
-    undeclared : role n.code n.v n.w ≡ cond (eqb n.code 70 && eqb n.v 0) (uses n.w) plain
-    unfolding role
-    undeclared = cond-false (eqb n.code 41) (declares n.v) _ (ne_eqb n.code 41 d)
-
-    pub note-uses : (x : ℕ) → Some x ≡ local_of n → note p (role n.code n.v n.w) u m ≡ at_use p x m
-    unfolding note
-    note-uses x e = ap (λ r. note p r u m) (undeclared ∙ uses-of _ n.w x e)
-
-    pub note-plain : None ≡ local_of n → note p (role n.code n.v n.w) u m ≡ marked m
-    unfolding note
-    note-plain e = ap (λ r. note p r u m) (undeclared ∙ plain-of _ n.w e)
-
-pub says_of : {X : Type 0} (r : Result X Fault) (m : List ℕ) (o o' : Marked) → o ≡ o' → Says r m o → Says r m o'
-says_of r m o o' e s = subst (λ z. Says r m z) e s
 
 ---- the children of a node, one after the other
 
@@ -60,13 +27,6 @@ pub record Walking (ws : List ℕ) (b : Bool) (place until p n : ℕ) (m₀ m : 
   pub wide : length m ≡ 1024
 
 module _ (ws : List ℕ) (b : Bool) (place until p n : ℕ) (m₀ : List ℕ) where
-  pub walking-none : length m₀ ≡ 1024 → Walking ws b place until p n m₀ m₀ place 0
-  walking-none l =
-      let e : p + 0 ≡ p = omega arith in
-      let z : n - 0 ≡ n = omega arith in
-      let k : kids_of (trees_of ws) ws (p + 0) (n - 0) ≡ kids_of (trees_of ws) ws p n = ap (λ a. kids_of (trees_of ws) ws a (n - 0)) e ∙ ap (kids_of (trees_of ws) ws p) z in
-      record { notes = ap (λ f. note_all place (steps_all b place until f) m₀) (sym k); sum = ap (λ f. place + size_all f) k; wide = l }
-
   -- a child's size is within what is left
   pub walking-size : (m : List ℕ) (at q : ℕ) → q < n → Walking ws b place until p n m₀ m at q
       → at + size (tree_at ws (get_or ws (p + q) 0)) ≤ place + size_all (kids_of (trees_of ws) ws p n)
@@ -146,4 +106,4 @@ module _ (ws : List ℕ) (i o place until : ℕ) (m₀ : List ℕ) (e : tree_at 
       let g = walk-node
       ∙ ap (λ z. and_then z (note (place + size_all (kids_of (trees_of ws) ws (o + 4) (kids_at ws o))) (role (code_at ws o) (v_at ws o) (w_at ws o)) until)) h'
       ∙ ap (λ z. note z (role (code_at ws o) (v_at ws o) (w_at ws o)) until m) (sym k) in
-      says_of r m' _ _ (sym g) s
+      subst (λ z. Says r m' z) (sym g) s

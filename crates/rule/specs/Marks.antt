@@ -1,5 +1,6 @@
--- What the walk notes of each local, by one number: 0 before it is met; where it is declared, the place in the walk at which
--- the innermost operand of a comparison around the declaration ends (or the whole walk); 65535 where it is used and not declared before.
+-- The walk of a rule's tree as steps, and what it has met of each local, as a number: 0 before the local is met; where it is
+-- declared, the place in the walk at which the innermost operand of a comparison around the declaration ends (or the whole walk);
+-- 65535 where it is used and was not declared before.
 use Rattle.std.specs.Prelude.{◌≡◌, ℕ, ◌+◌, Bool, true, false, cond, List, [], ◌∷◌, ◌++◌, map, Ok, Err, Result, ◌==◌, nat_lt, slice_index, slice_set}
 use Rattle.rule.specs.declared.fault.Fault.{Fault}
 use Rattle.rule.specs.declared.scopes.Mark.{Mark}

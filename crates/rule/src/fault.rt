@@ -3,7 +3,7 @@ ghost use Rattle.rule.specs.Faults.{ground_of, number_of};
 
 use std::fmt;
 
-// Why a run of words is no rule, in the order in which the grounds are tested.
+/// Why a run of words is no rule, in the order in which the grounds are tested.
 #[derive(Clone, Copy, Debug, PartialEq, Eq)]
 pub enum Fault {
     // longer than 8,192 words
@@ -24,14 +24,15 @@ pub enum Fault {
 }
 
 impl Fault {
+    /// The number of the ground, from 1 to 7.
     pub fn number(self) -> u8
         ensures { result ≡ number_of self }
     {
         self as u8
     }
 
-    // The ground in plain words.
-    // Kept: a call of its own beside Display: it is published, its text is what is proved, and Display prints it.
+    /// The ground in plain words.
+    // Kept: a call beside Display, since README promises a ground's words as a call; they stand here once, and Display prints them.
     pub fn ground(self) -> &'static str
         ensures { result.now ≡ ground_of self }
     {
@@ -49,7 +50,7 @@ impl Fault {
     }
 }
 
-// The ground.
+/// The ground.
 impl fmt::Display for Fault {
     ghost output = { λ fault. Some (ground_of fault) };
 

@@ -1,4 +1,4 @@
-ghost use Rattle.std.specs.Prelude.{◌≡◌, ◌≤◌, length, IfErr, OnOk, MatchResult};
+ghost use Rattle.std.specs.Prelude.{◌≡◌, ◌≤◌, IfErr, OnOk, MatchResult};
 ghost use Rattle.rule.specs.Faults.{number_of};
 ghost use Rattle.rule.specs.Intake.{Accepted, Refused, Comparable};
 
@@ -10,7 +10,7 @@ use crate::scopes::check_scopes;
 use crate::tree::{RuleTree, check_tree};
 use crate::words::check_words;
 
-// A run of words as a rule: the places of its nodes, or the first ground of 1 to 6 on which it is refused.
+/// A run of words as a rule: the places of its nodes, or the first ground of 1 to 6 on which it is refused.
 pub fn intake(words: &[u32]) -> Result<Nodes, Fault>
     ensures { MatchResult result (λ n. Accepted 6 words.now n) (λ f. Refused words.now f × (number_of f ≤ 6)) }
 {
@@ -23,7 +23,7 @@ pub fn intake(words: &[u32]) -> Result<Nodes, Fault>
     let sizes = check_tree(rule)?;
     let tree = RuleTree {
         rule,
-        sizes: &sizes,
+        sizes: sizes.as_slice(),
     };
     check_classes(tree)?;
     check_scopes(tree)?;
@@ -41,7 +41,7 @@ fn check_comparable(rule: Rule) -> Result<(), Fault>
     Ok(())
 }
 
-// The same, with ground 7 as well: a rule that may be entered into a catalogue or looked for in one.
+/// The same, with ground 7 as well: a rule that may be entered into a catalogue or looked for in one.
 pub fn intake_entry(words: &[u32]) -> Result<Nodes, Fault>
     ensures { MatchResult result (λ n. Accepted 7 words.now n) (λ f. Refused words.now f) }
 {

@@ -1,3 +1,5 @@
+// Runs of words as rules: the grounds on which a run is refused, and the nodes of one that is not.
+
 #![tactic(auto)]
 
 mod classes;

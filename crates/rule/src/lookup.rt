@@ -1,6 +1,6 @@
-ghost use Rattle.std.specs.Prelude.{◌≡◌, ℕ, ◌+◌, ◌<◌, ◌≤◌, true, length};
+ghost use Rattle.std.specs.Prelude.{◌≡◌, ◌<◌, true, length};
 ghost use Rattle.rule.specs.Format.{format, within, serves, admits, admitted};
-ghost use Rattle.rule.specs.Lookup.{takes, row_of, behind, front_at, enough, place_of, root, apart, placed};
+ghost use Rattle.rule.specs.Lookup.{takes, row_of, behind, front_at, enough, place_of, root, placed};
 
 use crate::rows::{Class, FIRST, Front, Place, ROWS, Row, Span};
 
@@ -22,7 +22,7 @@ impl Span {
     fn holds(self, x: u32) -> bool
         ensures { result ≡ within self x }
     {
-        self.low <= x && x <= self.high
+        (self.low..=self.high).contains(&x)
     }
 }
 
@@ -117,7 +117,7 @@ impl Row {
     }
 }
 
-// The row that a node's words are within.
+/// The row that a node's words are within.
 pub fn row_of(code: u32, v: u32, w: u32) -> Option<Row>
     ensures { result ≡ row_of code v w }
 {

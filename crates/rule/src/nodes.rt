@@ -1,4 +1,4 @@
-ghost use Rattle.std.specs.Prelude.{◌≡◌, ℕ, ◌+◌, ◌-◌, ◌<◌, ◌≤◌, ◌↔◌, length, slice_index, IfSome, IsNone, IfOk, IfErr};
+ghost use Rattle.std.specs.Prelude.{◌≡◌, ◌+◌, ◌-◌, ◌<◌, ◌≤◌, ◌↔◌, length, slice_index, IfSome, IsNone, IfOk, IfErr};
 ghost use Rattle.rule.specs.Faults.{number_of};
 ghost use Rattle.rule.specs.Intake.{Read, Refused};
 
@@ -9,9 +9,10 @@ use crate::lookup::row_of;
 use crate::rows::Row;
 use arrayvec::ArrayVec;
 
-// The longest rule, in words, and the most nodes that so many words hold.
+/// The longest rule, in words.
 pub const MOST_WORDS: usize = 8192;
 
+/// The most nodes that the longest rule has: each is four words or more.
 pub const MOST_NODES: usize = 2048;
 
 /// The places at which the nodes of a rule begin, in their order.
@@ -98,6 +99,7 @@ impl<'w, 'p> Rule<'w, 'p> {
         ensures some { IfSome result (λ n. Spelt self.entry.words.now (slice_index self.entry.at.now i) n) }
         ensures none { IsNone result ↔ (length self.entry.at.now ≤ i) }
     {
+        // Kept: an `if`, since what the closure of a `then` says of its node was not found to be what the clause says.
         if i < self.at.len() {
             Some(self.known_node(i))
         } else {
@@ -176,18 +178,13 @@ pub(crate) fn read_nodes(words: &[u32]) -> Result<Nodes, Fault>
         return Err(Fault::CutShort);
     }
     let mut at = ArrayVec::new();
-    let mut place = 0;
-    // Kept: the places are what it finds, and no two nodes need be of one length.
-    while place < words.len() {
-        if words.len() - place < 4 {
+    let mut rest = words;
+    while !rest.is_empty() {
+        let [_, _, _, kids, behind @ ..] = rest else {
             return Err(Fault::CutShort);
-        }
-        let kids = words[place + 3] as usize;
-        if words.len() - place - 4 < kids {
-            return Err(Fault::CutShort);
-        }
-        at.push(place as u16);
-        place += 4 + kids;
+        };
+        at.push((words.len() - rest.len()) as u16);
+        rest = behind.get(*kids as usize..).ok_or(Fault::CutShort)?;
     }
     Ok(Nodes { at })
 }

@@ -1,4 +1,4 @@
-// What a node is: where it may stand as a child or as the root.
+/// What a node is: where it may stand as a child or as the root.
 #[derive(Clone, Copy, Debug, PartialEq, Eq)]
 pub enum Class {
     Absent,
@@ -18,14 +18,14 @@ pub enum Class {
     PatField,
 }
 
-// The words from `low` to `high`, both of them included.
+/// The words from `low` to `high`, both of them included.
 #[derive(Clone, Copy)]
 pub struct Span {
     pub low: u32,
     pub high: u32,
 }
 
-// Which classes a child's place takes.
+/// Which classes a child's place takes.
 #[derive(Clone, Copy)]
 pub enum Place {
     One(Class),
@@ -34,7 +34,7 @@ pub enum Place {
     Either(Class, Class),
 }
 
-// The first places of a row: four at most.
+/// The first places of a row: four at most.
 // Kept: four fields with their count, and no array, since the borrow checker does not cover a static of structs that hold arrays of enums.
 #[derive(Clone, Copy)]
 pub struct Front {
@@ -44,7 +44,7 @@ pub struct Front {
     pub d: Option<Place>,
 }
 
-// What a node of one code may be. A code has as many rows as its words or its children have shapes.
+/// What a node of one code may be. A code has as many rows as its words or its children have shapes.
 #[derive(Clone, Copy)]
 pub struct Row {
     pub code: u32,

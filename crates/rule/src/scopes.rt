@@ -1,10 +1,9 @@
-ghost use Rattle.std.specs.Prelude.{◌≡◌, ℕ, ◌+◌, ◌<◌, ◌≤◌, ◌==◌, length, OnOk, IfErr};
+ghost use Rattle.std.specs.Prelude.{◌≡◌, ◌+◌, ◌<◌, ◌≤◌, ◌==◌, length, OnOk, IfErr};
 ghost use Rattle.rule.specs.Trees.{tree_at};
 ghost use Rattle.rule.specs.Scopes.{role};
 ghost use Rattle.rule.specs.Marks.{size, steps, end, end_of, ends, at_declaration, at_use, note, note_all, Says};
 ghost use Rattle.rule.specs.Intake.{Scoped};
 
-use crate::codes::BINDING;
 use crate::fault::Fault;
 use crate::nodes::Node;
 use crate::tree::RuleTree;
@@ -31,7 +30,7 @@ impl Mark {
 }
 
 // Where the innermost operand around a child ends: with the child, if it is one itself.
-fn operand_end(fork: bool, end: usize, until: usize) -> usize
+fn operand_end(fork: bool, end: u16, until: u16) -> u16
     ensures { result ≡ end_of fork end until }
 {
     if fork { end } else { until }
@@ -39,15 +38,14 @@ fn operand_end(fork: bool, end: usize, until: usize) -> usize
 
 // A local declared; it may be used before the place `until`.
 #[tactic(auto, unfolding(crate::specs::Marks::at_declaration))]
-fn declare(local: u32, until: usize, marks: &mut [Mark; MOST_LOCALS]) -> Result<(), Fault>
-    requires some { 0 < until }
-    requires few { until ≤ 2048 }
+fn declare(local: u32, until: u16, marks: &mut [Mark; MOST_LOCALS]) -> Result<(), Fault>
+    requires { 0 < until }
     ensures { Says result (ends marks.new) (at_declaration local until (ends marks.old)) }
 {
     // Kept: read and then written by number, since of what `get_mut` lends a proof knows the length alone.
     match marks.get(local as usize) {
         Some(mark) if mark.is_unmet() => {
-            marks[local as usize] = Mark::UsableTo((until - 1) as u16);
+            marks[local as usize] = Mark::UsableTo(until - 1);
             Ok(())
         }
         _ => Err(Fault::BadScope),
@@ -56,8 +54,8 @@ fn declare(local: u32, until: usize, marks: &mut [Mark; MOST_LOCALS]) -> Result<
 
 // A local used at `place`.
 #[tactic(auto, unfolding(crate::specs::Marks::at_use))]
-fn use_local(local: u32, place: usize, marks: &mut [Mark; MOST_LOCALS]) -> Result<(), Fault>
-    requires { place ≤ 2048 }
+fn use_local(local: u32, place: u16, marks: &mut [Mark; MOST_LOCALS]) -> Result<(), Fault>
+    requires { place < 65535 }
     ensures { Says result (ends marks.new) (at_use place local (ends marks.old)) }
 {
     // Kept: read and then written by number, as in `declare`.
@@ -67,28 +65,28 @@ fn use_local(local: u32, place: usize, marks: &mut [Mark; MOST_LOCALS]) -> Resul
             Ok(())
         }
         Some(Mark::Free) => Ok(()),
-        Some(Mark::UsableTo(last)) if place <= *last as usize => Ok(()),
+        Some(Mark::UsableTo(last)) if place <= *last => Ok(()),
         _ => Err(Fault::BadScope),
     }
 }
 
 // What a node does with a local: a binding declares one, a path to a local uses one.
+#[tactic(auto, unfolding(crate::specs::Marks::note, crate::specs::Scopes::role))]
 fn note_node(
     node: Node,
-    place: usize,
-    until: usize,
+    place: u16,
+    until: u16,
     marks: &mut [Mark; MOST_LOCALS],
 ) -> Result<(), Fault>
-    requires before { place < until }
-    requires few { until ≤ 2048 }
+    requires { place < until }
     ensures { Says result (ends marks.new) (note place (role node.entry.code node.entry.v node.entry.w) until (ends marks.old)) }
 {
-    if node.code == BINDING {
-        return declare(node.v, until, marks);
-    }
-    match node.local() {
-        Some(local) => use_local(local, place, marks),
-        None => Ok(()),
+    if let Some(local) = node.declared() {
+        declare(local, until, marks)
+    } else if let Some(local) = node.local() {
+        use_local(local, place, marks)
+    } else {
+        Ok(())
     }
 }
 
@@ -96,13 +94,12 @@ fn note_node(
 fn walk_scopes(
     tree: RuleTree,
     i: usize,
-    place: usize,
-    until: usize,
+    place: u16,
+    until: u16,
     marks: &mut [Mark; MOST_LOCALS],
 ) -> Result<(), Fault>
     requires inside { i < length tree.rule.at.now }
     requires fits { place + size (tree_at tree.rule.words.now i) ≤ until }
-    requires few { until ≤ 2048 }
     ensures { Says result (ends marks.new) (note_all place (steps place until (tree_at tree.entry.rule.words.now i)) (ends marks.old)) }
 {
     let node = tree.rule.known_node(i);
@@ -110,7 +107,7 @@ fn walk_scopes(
     let mut at = place;
     for kid in node.kids {
         let kid = *kid as usize;
-        let end = at + tree.sizes[kid] as usize;
+        let end = at + tree.sizes[kid];
         walk_scopes(tree, kid, at, operand_end(fork, end, until), marks)?;
         at = end;
     }
@@ -126,5 +123,5 @@ pub(crate) fn check_scopes(tree: RuleTree) -> Result<(), Fault>
     // Kept: an array with a place for each local, since this crate uses no heap.
     let mut marks = [Mark::Unmet; MOST_LOCALS];
     let root = tree.rule.root();
-    walk_scopes(tree, root, 0, tree.sizes[root] as usize, &mut marks)
+    walk_scopes(tree, root, 0, tree.sizes[root], &mut marks)
 }

@@ -1,9 +1,9 @@
-use Rattle.std.proofs.Common.{◌-◌, ◌*◌, ◌≤◌, length}
+use Rattle.std.proofs.Common.{length}
 use Rattle.rule.proofs.Laid.{Found}
 use Rattle.rule.proofs.nodes.read_nodes.Given as goal
 
-abbrev pub invariant-loop-place : goal.invariant-loop-place
-invariant-loop-place l = Found l.words l.at.items l.place × (4 * length l.at.items ≤ l.place) × (l.place ≤ length l.words)
+abbrev pub invariant-loop-rest : goal.invariant-loop-rest
+invariant-loop-rest l = Found l.words l.at.items l.rest
 
-abbrev pub decreases-loop-place : goal.decreases-loop-place
-decreases-loop-place l = length l.words - l.place
+abbrev pub decreases-loop-rest : goal.decreases-loop-rest
+decreases-loop-rest l = length l.rest

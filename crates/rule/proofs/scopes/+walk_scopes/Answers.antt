@@ -14,14 +14,13 @@ pub overflow_add-end : goal.overflow_add-end
 overflow_add-end t c =
     let tree = c.args.tree in
     let k = kid _ _ _ _ _ _ _ _ _ _ _ _ tree.rule.read tree.treelike tree.sized c.requires.inside c.known_node-node.ensures c.loop-kid-test.true c.requires.fits c.loop-kid.invariant in
-    omega (arith, k.size_is, k.ends, c.requires.few)
+    omega (arith, k.size_is, k.ends, c.ranges.until)
 
 pub walk_scopes-requires : goal.walk_scopes-requires
 walk_scopes-requires t c =
     let tree = c.args.tree in
     let k = kid _ _ _ _ _ _ _ _ _ _ _ _ tree.rule.read tree.treelike tree.sized c.requires.inside c.known_node-node.ensures c.loop-kid-test.true c.requires.fits c.loop-kid.invariant in
-    let e = kid-end c.is_some-fork.result _ _ _ _ _ k.size_is k.ends c.operand_end.ensures in
-    (omega (arith, k.below, c.decreases), (omega (arith, k.below, c.requires.inside), (e.0, omega (arith, e.1, c.requires.few))))
+    (omega (arith, k.below, c.decreases), (omega (arith, k.below, c.requires.inside), kid-end c.is_some-fork.result _ _ _ _ _ k.size_is k.ends c.operand_end.ensures))
 
 pub returns-in_err-walk_scopes : goal.returns-in_err-walk_scopes
 returns-in_err-walk_scopes t c =
@@ -48,7 +47,7 @@ note_node-requires t c =
     let e : c.loop-kid.kid-index ≡ kids_at tree.rule.words.now (get_or tree.rule.at.now c.args.i 0) = omega (arith, c.known_node-node.ensures.count, c.loop-kid-test.false, c.loop-kid.auto.kid-index-end) in
     let a = walking-all _ _ _ _ _ _ _ _ _ _ e c.loop-kid.invariant in
     let z = size-node _ _ _ c.args.place c.args.until (ends c.args.marks.now) (tree-read _ _ _ tree.rule.read tree.treelike c.requires.inside) in
-    record { before = omega (arith, a.1, z, c.requires.fits); few = c.requires.few }
+    omega (arith, a.1, z, c.requires.fits)
 
 pub returns : goal.returns
 returns t c =

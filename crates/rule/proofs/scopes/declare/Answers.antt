@@ -9,5 +9,5 @@ pub returns-in-Some : goal.returns-in-Some
 unfolding at_declaration
 returns-in-Some c =
     let l = c.in-Some.ensures.lookup.3 in
-    let u : c.args.until - 1 + 1 ≡ c.args.until = omega (arith, c.requires.some) in
+    let u : c.args.until - 1 + 1 ≡ c.args.until = omega (arith, c.requires) in
     rw (ends-set c.args.marks.now c.args.local (UsableTo (c.args.until - 1)), u) (grind (arith, nat_tests, l.0, end-at c.args.marks.now c.args.local, l.1 Unmet))
