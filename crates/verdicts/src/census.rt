@@ -56,7 +56,7 @@ fn census_of<T: HasOutcome>(items: &[T]) -> Census
     }
 }
 
-#[derive(Clone, Copy)]
+#[derive(Clone, Copy, Debug, PartialEq, Eq)]
 pub struct Census {
     pub keep: usize,
     pub convert: usize,
