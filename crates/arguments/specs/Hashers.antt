@@ -11,8 +11,8 @@ use Rattle.arguments.specs.declared.misuse.Misuse.{Misuse}
 use Rattle.arguments.specs.declared.misuse.Misuse.TheVariants.{Missing, Other}
 
 -- the argument at i is the option
-abbrev pub Opt : List (String Global) → ℕ → Type 0
-Opt rest i = Is rest i (codes "--hasher")
+abbrev pub OptionAt : List (String Global) → ℕ → Type 0
+OptionAt rest i = Is rest i (codes "--hasher")
 
 -- no hasher has the name at i
 abbrev pub Nameless : List (String Global) → ℕ → Type 0
@@ -50,10 +50,10 @@ abbrev pub TableFirstAs : List (String Global) → Result Hashed Misuse → Type
 TableFirstAs rest r =
     (length rest ≡ 0 → Lacks Table r) ×
     (length rest ≡ 1 → IsOkAnd r (λ a. Is rest 0 a.table.now × (a.hasher ≡ Rotating))) ×
-    (Opt rest 1 → OptionSecondAs rest r) ×
-    (2 ≤ length rest → (Opt rest 1 → ⊥) → Finds NoMore (Is rest 1) r)
+    (OptionAt rest 1 → OptionSecondAs rest r) ×
+    (2 ≤ length rest → (OptionAt rest 1 → ⊥) → Finds NoMore (Is rest 1) r)
 
 abbrev pub HashedAs : List (String Global) → Result Hashed Misuse → Type 0
 HashedAs rest r =
-    (Opt rest 0 → OptionFirstAs rest r) ×
-    ((Opt rest 0 → ⊥) → TableFirstAs rest r)
+    (OptionAt rest 0 → OptionFirstAs rest r) ×
+    ((OptionAt rest 0 → ⊥) → TableFirstAs rest r)

@@ -33,8 +33,10 @@ pub fn one_file(rest: &[String], expected: Expected) -> Result<&str, Misuse<'_>>
 {
     match rest {
         [] => Err(Misuse::Missing(expected)),
-        [file] => Ok(file.as_str()),
-        [_, more, ..] => Err(Misuse::Other(Expected::NoMore, more.as_str())),
+        [file, more @ ..] => {
+            alone(more)?;
+            Ok(file.as_str())
+        }
     }
 }
 
@@ -44,12 +46,14 @@ pub fn table_and_names(rest: &[String]) -> Result<Compared<'_>, Misuse<'_>>
     match rest {
         [] => Err(Misuse::Missing(Expected::Table)),
         [_] | [_, _] => Err(Misuse::Missing(Expected::Names)),
-        [table, first, second] => Ok(Compared {
-            table: table.as_str(),
-            first: first.as_str(),
-            second: second.as_str(),
-        }),
-        [_, _, _, more, ..] => Err(Misuse::Other(Expected::NoMore, more.as_str())),
+        [table, first, second, more @ ..] => {
+            alone(more)?;
+            Ok(Compared {
+                table: table.as_str(),
+                first: first.as_str(),
+                second: second.as_str(),
+            })
+        }
     }
 }
 
@@ -60,7 +64,8 @@ pub fn two_tables(rest: &[String]) -> Result<Changed<'_>, Misuse<'_>>
     match rest {
         [] => Err(Misuse::Missing(Expected::Table)),
         [_] => Err(Misuse::Missing(Expected::NewTable)),
-        [old, new] => {
+        [old, new, more @ ..] => {
+            alone(more)?;
             let old = old.as_str();
             let new = new.as_str();
             if old == "-" && new == "-" {
@@ -68,6 +73,5 @@ pub fn two_tables(rest: &[String]) -> Result<Changed<'_>, Misuse<'_>>
             }
             Ok(Changed { old, new })
         }
-        [_, _, more, ..] => Err(Misuse::Other(Expected::NoMore, more.as_str())),
     }
 }

@@ -1,6 +1,7 @@
 // A table, and the hasher for its rules: `--hasher NAME`, before the table or after it.
 ghost use Rattle.arguments.specs.Hashers.{HashedAs, TableHashedAs};
 
+use crate::files::alone;
 use crate::misuse::{Expected, Misuse};
 use hashing::named::HasherName;
 
@@ -19,19 +20,25 @@ pub fn table_and_hasher(rest: &[String]) -> Result<Hashed<'_>, Misuse<'_>>
         [option, rest @ ..] if option.as_str() == "--hasher" => match rest {
             [] => Err(Misuse::Missing(Expected::Hasher)),
             [_] => Err(Misuse::Missing(Expected::Table)),
-            [name, table] => hashed_by(name.as_str(), table.as_str()),
-            [_, _, more, ..] => Err(Misuse::Other(Expected::NoMore, more.as_str())),
+            [name, table, more @ ..] => {
+                alone(more)?;
+                hashed_by(name.as_str(), table.as_str())
+            }
         },
-        [table] => Ok(Hashed {
-            table: table.as_str(),
-            hasher: HasherName::Rotating,
-        }),
         [table, option, rest @ ..] if option.as_str() == "--hasher" => match rest {
             [] => Err(Misuse::Missing(Expected::Hasher)),
-            [name] => hashed_by(name.as_str(), table.as_str()),
-            [_, more, ..] => Err(Misuse::Other(Expected::NoMore, more.as_str())),
+            [name, more @ ..] => {
+                alone(more)?;
+                hashed_by(name.as_str(), table.as_str())
+            }
         },
-        [_, more, ..] => Err(Misuse::Other(Expected::NoMore, more.as_str())),
+        [table, more @ ..] => {
+            alone(more)?;
+            Ok(Hashed {
+                table: table.as_str(),
+                hasher: HasherName::Rotating,
+            })
+        }
     }
 }
 

@@ -7,21 +7,19 @@ use std::process::Abort;
 use std::test::Fail;
 
 fn words(heap: Global, line: &str) -> Result<Vec<String>, AllocError> {
-    let mut words = Vec::new(heap);
-    for word in line.split_whitespace() {
-        words.push(String::from_str(heap, word)?)?;
-    }
-    Ok(words)
+    line.split_whitespace()
+        .map(|word| String::from_str(heap, word))
+        .try_collect(heap)
 }
 
 // What was read prints as expected, and what is wrong with `help` behind it.
-fn prints<C: fmt::Debug, M: fmt::Display>(
-    rt: &impl Abort,
-    heap: Global,
+fn prints<R: Abort + AllocGlobal, C: fmt::Debug, M: fmt::Display>(
+    rt: &R,
     read: &Result<C, M>,
     expected: &str,
     help: &str,
 ) -> Result<(), Fail> {
+    let heap = rt.alloc();
     match read {
         Ok(command) => {
             assert_eq!(rt; format!(in heap; "{command:?}")?.as_str(), expected);
@@ -35,35 +33,31 @@ fn prints<C: fmt::Debug, M: fmt::Display>(
     }
 }
 
-fn reads(rt: &impl Abort, heap: Global, line: &str, expected: &str) -> Result<(), Fail> {
-    let args = words(heap, line)?;
-    prints(rt, heap, &parse_args(args.as_slice()), expected, "")
+fn reads<R: Abort + AllocGlobal>(rt: &R, line: &str, expected: &str) -> Result<(), Fail> {
+    let args = words(rt.alloc(), line)?;
+    prints(rt, &parse_args(args.as_slice()), expected, "")
 }
 
 #[test]
 fn reads_commands(rt: HostRuntime) -> Result<(), Fail> {
-    let heap = rt.alloc();
-    reads(&rt, heap, "", "Help")?;
-    reads(&rt, heap, "judge", "Help")?;
-    reads(&rt, heap, "judge help", "Help")?;
-    reads(&rt, heap, "judge --help", "Help")?;
-    reads(&rt, heap, "judge check t", "Check(\"t\")")?;
-    reads(&rt, heap, "judge replay s", "Replay(\"s\")")?;
+    reads(&rt, "", "Help")?;
+    reads(&rt, "judge", "Help")?;
+    reads(&rt, "judge help", "Help")?;
+    reads(&rt, "judge --help", "Help")?;
+    reads(&rt, "judge check t", "Check(\"t\")")?;
+    reads(&rt, "judge replay s", "Replay(\"s\")")?;
     reads(
         &rt,
-        heap,
         "judge compare t a b",
         "Compare(Compared { table: \"t\", first: \"a\", second: \"b\" })",
     )?;
     reads(
         &rt,
-        heap,
         "judge change - new",
         "Change(Changed { old: \"-\", new: \"new\" })",
     )?;
     reads(
         &rt,
-        heap,
         "judge change old -",
         "Change(Changed { old: \"old\", new: \"-\" })",
     )
@@ -71,22 +65,19 @@ fn reads_commands(rt: HostRuntime) -> Result<(), Fail> {
 
 #[test]
 fn reads_hashers(rt: HostRuntime) -> Result<(), Fail> {
-    let heap = rt.alloc();
     let rotating = "Hash(Hashed { table: \"t\", hasher: Rotating })";
     let fnv1a = "Hash(Hashed { table: \"t\", hasher: Fnv1a })";
-    reads(&rt, heap, "judge hash t", rotating)?;
-    reads(&rt, heap, "judge hash t --hasher rotating", rotating)?;
-    reads(&rt, heap, "judge hash t --hasher fnv1a", fnv1a)?;
-    reads(&rt, heap, "judge hash --hasher fnv1a t", fnv1a)?;
+    reads(&rt, "judge hash t", rotating)?;
+    reads(&rt, "judge hash t --hasher rotating", rotating)?;
+    reads(&rt, "judge hash t --hasher fnv1a", fnv1a)?;
+    reads(&rt, "judge hash --hasher fnv1a t", fnv1a)?;
     reads(
         &rt,
-        heap,
         "judge classes --hasher rotating t",
         "Classes(Hashed { table: \"t\", hasher: Rotating })",
     )?;
     reads(
         &rt,
-        heap,
         "judge classes t --hasher fnv1a",
         "Classes(Hashed { table: \"t\", hasher: Fnv1a })",
     )
@@ -94,68 +85,53 @@ fn reads_hashers(rt: HostRuntime) -> Result<(), Fail> {
 
 #[test]
 fn says_what_is_missing(rt: HostRuntime) -> Result<(), Fail> {
-    let heap = rt.alloc();
     let table = "expected a table after the command";
     let names = "expected two names of rules after the table";
     let hasher = "expected rotating or fnv1a after --hasher";
-    reads(&rt, heap, "judge check", table)?;
+    reads(&rt, "judge check", table)?;
+    reads(&rt, "judge replay", "expected a script after the command")?;
+    reads(&rt, "judge compare", table)?;
+    reads(&rt, "judge compare t", names)?;
+    reads(&rt, "judge compare t a", names)?;
+    reads(&rt, "judge change", table)?;
     reads(
         &rt,
-        heap,
-        "judge replay",
-        "expected a script after the command",
-    )?;
-    reads(&rt, heap, "judge compare", table)?;
-    reads(&rt, heap, "judge compare t", names)?;
-    reads(&rt, heap, "judge compare t a", names)?;
-    reads(&rt, heap, "judge change", table)?;
-    reads(
-        &rt,
-        heap,
         "judge change t",
         "expected a new table after the old one",
     )?;
-    reads(&rt, heap, "judge hash", table)?;
-    reads(&rt, heap, "judge hash --hasher", hasher)?;
-    reads(&rt, heap, "judge hash --hasher fnv1a", table)?;
-    reads(&rt, heap, "judge classes t --hasher", hasher)
+    reads(&rt, "judge hash", table)?;
+    reads(&rt, "judge hash --hasher", hasher)?;
+    reads(&rt, "judge hash --hasher fnv1a", table)?;
+    reads(&rt, "judge classes t --hasher", hasher)
 }
 
 #[test]
 fn says_what_is_found(rt: HostRuntime) -> Result<(), Fail> {
-    let heap = rt.alloc();
     let more = "expected no more arguments, found \"x\"";
     let unknown = "expected rotating or fnv1a after --hasher, found \"md5\"";
+    reads(&rt, "judge weigh", "expected a command, found \"weigh\"")?;
+    reads(&rt, "judge help x", more)?;
+    reads(&rt, "judge check t x", more)?;
+    reads(&rt, "judge compare t a b x", more)?;
+    reads(&rt, "judge change a b x", more)?;
     reads(
         &rt,
-        heap,
-        "judge weigh",
-        "expected a command, found \"weigh\"",
-    )?;
-    reads(&rt, heap, "judge help x", more)?;
-    reads(&rt, heap, "judge check t x", more)?;
-    reads(&rt, heap, "judge compare t a b x", more)?;
-    reads(&rt, heap, "judge change a b x", more)?;
-    reads(
-        &rt,
-        heap,
         "judge change - -",
         "expected standard input for at most one table, found - twice",
     )?;
-    reads(&rt, heap, "judge hash t x", more)?;
-    reads(&rt, heap, "judge hash t --hasher fnv1a x", more)?;
-    reads(&rt, heap, "judge hash --hasher fnv1a t x", more)?;
-    reads(&rt, heap, "judge hash --hasher md5 t", unknown)?;
-    reads(&rt, heap, "judge classes t --hasher md5", unknown)
+    reads(&rt, "judge hash t x", more)?;
+    reads(&rt, "judge hash t --hasher fnv1a x", more)?;
+    reads(&rt, "judge hash --hasher fnv1a t x", more)?;
+    reads(&rt, "judge hash --hasher md5 t", unknown)?;
+    reads(&rt, "judge classes t --hasher md5", unknown)
 }
 
 // As `reads`, of the commands that judge rules alone: there the help follows what is wrong.
-fn judges(rt: &impl Abort, heap: Global, line: &str, expected: &str) -> Result<(), Fail> {
-    let args = words(heap, line)?;
-    let help = format!(in heap; "\n{HELP}")?;
+fn judges<R: Abort + AllocGlobal>(rt: &R, line: &str, expected: &str) -> Result<(), Fail> {
+    let args = words(rt.alloc(), line)?;
+    let help = format!(in rt.alloc(); "\n{HELP}")?;
     prints(
         rt,
-        heap,
         &judging::parse_args(args.as_slice()).map_err(WithHelp),
         expected,
         help.as_str(),
@@ -164,59 +140,48 @@ fn judges(rt: &impl Abort, heap: Global, line: &str, expected: &str) -> Result<(
 
 #[test]
 fn reads_commands_that_judge(rt: HostRuntime) -> Result<(), Fail> {
-    let heap = rt.alloc();
     let table = "expected a table after the command";
     let names = "expected two names of rules after the table";
     let more = "expected no more arguments, found \"x\"";
-    judges(&rt, heap, "", "Help")?;
-    judges(&rt, heap, "judge", "Help")?;
-    judges(&rt, heap, "judge help", "Help")?;
-    judges(&rt, heap, "judge --help", "Help")?;
-    judges(&rt, heap, "judge help x", more)?;
-    judges(&rt, heap, "judge --help x", more)?;
-    judges(&rt, heap, "judge check t", "Check(\"t\")")?;
-    judges(&rt, heap, "judge check", table)?;
-    judges(&rt, heap, "judge check t x", more)?;
+    judges(&rt, "", "Help")?;
+    judges(&rt, "judge", "Help")?;
+    judges(&rt, "judge help", "Help")?;
+    judges(&rt, "judge --help", "Help")?;
+    judges(&rt, "judge help x", more)?;
+    judges(&rt, "judge --help x", more)?;
+    judges(&rt, "judge check t", "Check(\"t\")")?;
+    judges(&rt, "judge check", table)?;
+    judges(&rt, "judge check t x", more)?;
     judges(
         &rt,
-        heap,
         "judge compare t a b",
         "Compare(Compared { table: \"t\", first: \"a\", second: \"b\" })",
     )?;
-    judges(&rt, heap, "judge compare", table)?;
-    judges(&rt, heap, "judge compare t", names)?;
-    judges(&rt, heap, "judge compare t a", names)?;
-    judges(&rt, heap, "judge compare t a b x", more)?;
+    judges(&rt, "judge compare", table)?;
+    judges(&rt, "judge compare t", names)?;
+    judges(&rt, "judge compare t a", names)?;
+    judges(&rt, "judge compare t a b x", more)?;
     judges(
         &rt,
-        heap,
         "judge change - new",
         "Change(Changed { old: \"-\", new: \"new\" })",
     )?;
     judges(
         &rt,
-        heap,
         "judge change old -",
         "Change(Changed { old: \"old\", new: \"-\" })",
     )?;
-    judges(&rt, heap, "judge change", table)?;
+    judges(&rt, "judge change", table)?;
     judges(
         &rt,
-        heap,
         "judge change t",
         "expected a new table after the old one",
     )?;
     judges(
         &rt,
-        heap,
         "judge change - -",
         "expected standard input for at most one table, found - twice",
     )?;
-    judges(&rt, heap, "judge change a b x", more)?;
-    judges(
-        &rt,
-        heap,
-        "judge hash t",
-        "expected a command, found \"hash\"",
-    )
+    judges(&rt, "judge change a b x", more)?;
+    judges(&rt, "judge hash t", "expected a command, found \"hash\"")
 }

@@ -11,7 +11,7 @@ pub fn check<'a>(rt: &HostRuntime, table: &'a str) -> Result<(), Trouble<'a>> {
 }
 
 fn report(rt: &HostRuntime, entries: &[Entry]) -> io::Result<()> {
-    // Kept: each line is printed before the next rule is judged, which a `collect` first would undo.
+    // Kept: each line is printed as its rule is judged; a `collect` of the verdicts first would print nothing where memory ends.
     let mut verdicts = Vec::new(rt.alloc());
     for entry in entries {
         let verdict = verdict_of(entry.words.as_slice());

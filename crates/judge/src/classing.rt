@@ -16,7 +16,7 @@ pub fn classes<'a>(rt: &HostRuntime, asked: Hashed<'a>) -> Result<(), Trouble<'a
     under_hasher(asked.hasher, Entering { rt, entries })
 }
 
-// Kept: two jobs of one shape, here and in hash.rt, told apart by their types.
+// Kept: a job is a type, here and in hash.rt, since a closure cannot be generic over the hasher.
 struct Entering<'r> {
     rt: &'r HostRuntime,
     entries: &'r [Entry],

@@ -26,7 +26,7 @@ impl<'r> UnderHasher for Report<'r> {
 
     fn run<H: Hasher>(self) -> io::Result<()> {
         let Report { rt, entries } = self;
-        // Kept: the refused are counted as they are printed, so that each rule is hashed once and no list of hashes is made.
+        // Kept: each line is printed as its rule is hashed; a `collect` of the hashes first would print nothing where memory ends.
         let mut refused: usize = 0;
         for entry in entries {
             let name = entry.name.as_str();

@@ -1,5 +1,5 @@
-// judge: says of each rule of a table whether it can be judged, of rules whether they are the same,
-// and shows their hashes and classes.
+// judge: says of each rule of a table whether it can be judged, of two rules whether they are the same, and of each rule what
+// becomes of it in a change of tables; shows the hashes and classes of rules; and replays the calls of a script on a catalogue.
 
 #![tactic(auto)]
 

@@ -6,7 +6,7 @@ use kinds::rules::RuleFault;
 use std::fmt;
 use verdicts::rules::Rules;
 
-#[derive(Clone, Copy)]
+#[derive(Clone, Copy, Debug, PartialEq, Eq)]
 pub struct Place {
     pub number: usize,
     pub class: usize,
@@ -79,7 +79,7 @@ impl fmt::Display for Unplaced {
     }
 }
 
-#[derive(Clone, Copy)]
+#[derive(Clone, Copy, Debug, PartialEq, Eq)]
 pub struct Counts {
     pub rules: usize,
     pub entered: usize,

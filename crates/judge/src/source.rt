@@ -91,7 +91,7 @@ impl<'a> fmt::Display for Trouble<'a> {
 }
 
 // The rules of a table.
-// Kept: beside `load_script`; what is left of the two is the parser and the trouble that has its fault.
+// Kept: `load_script` is alike; the two differ in the parser and in the trouble, which is all that is left.
 pub fn load<'a>(rt: &HostRuntime, table: &'a str) -> Result<Vec<Entry>, Trouble<'a>> {
     let source = Source::from(table);
     let bytes = read(rt, source)?;

@@ -36,15 +36,17 @@ is_kind a b = rank a == rank b
 abbrev pub counted : Kind → List Outcome → ℕ
 counted k os = count_by (λ o. is_kind (kind_of o) k) os
 
--- the outcome of a rule that is in both tables, by what comparing the two says: where both are rules, where one is none, and over any pair table
+-- the outcome of two rules that are the same, or are not
 abbrev pub both : Bool → Outcome
 both true = Keep
 both false = Convert
 
+-- the outcome of a rule that is in both tables, where one of the two is no rule
 abbrev pub unfit : Unfit → Outcome
 unfit (First fault) = Refused Old fault
 unfit (Second fault) = Refused New fault
 
+-- the outcome of a rule that is in both tables, by what comparing the two says, and none where the pair table was too short for it
 abbrev pub answered : Result Bool CompareFault → Option Outcome
 answered (Ok same) = Some (both same)
 answered (Err (ByUnfit e)) = Some (unfit e)

@@ -1,5 +1,5 @@
 // How many rules have each outcome.
-ghost use Rattle.std.specs.Prelude.{◌≡◌, ◌+◌, length, map, ◌==◌};
+ghost use Rattle.std.specs.Prelude.{◌≡◌, map, ◌==◌};
 ghost use Rattle.verdicts.specs.Censuses.{CensusOf, outcomes_of};
 ghost use Rattle.verdicts.specs.Outcomes.{counted};
 ghost use Rattle.verdicts.specs.declared.outcome.Outcome.{Outcome};
@@ -56,7 +56,7 @@ fn census_of<T: HasOutcome>(items: &[T]) -> Census
     }
 }
 
-#[derive(Clone, Copy)]
+#[derive(Clone, Copy, Debug, PartialEq, Eq)]
 pub struct Census {
     pub keep: usize,
     pub convert: usize,
@@ -67,12 +67,7 @@ pub struct Census {
 
 impl Census {
     pub fn of(outcomes: &[Outcome]) -> Census
-        ensures keep { result.keep ≡ counted Kind.Keep outcomes.now }
-        ensures convert { result.convert ≡ counted Kind.Convert outcomes.now }
-        ensures gone { result.gone ≡ counted Kind.Gone outcomes.now }
-        ensures added { result.added ≡ counted Kind.Added outcomes.now }
-        ensures refused { result.refused ≡ counted Kind.Refused outcomes.now }
-        ensures whole { result.keep + result.convert + result.gone + result.added + result.refused ≡ length outcomes.now }
+        ensures { CensusOf outcomes.now result }
     {
         census_of(outcomes)
     }

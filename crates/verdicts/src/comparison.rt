@@ -21,7 +21,7 @@ pub struct Comparison<'n> {
     pub answer: Result<Option<PairTable>, Unfit>,
 }
 
-#[derive(Clone, Copy)]
+#[derive(Clone, Copy, Debug, PartialEq, Eq)]
 pub enum Uncompared<'n> {
     // no rule has this name
     Unnamed(&'n str),

@@ -11,8 +11,7 @@ use tables::line::Entry;
 #[derive(Drop)]
 pub struct Names<'a> {
     entries: &'a [Entry],
-    // at each name the place of its rule
-    places: BTreeMap<String, usize>,
+    by_name: BTreeMap<String, &'a Entry>,
 }
 
 impl<'a> Model for Names<'a> {
@@ -24,26 +23,25 @@ impl<'a> Model for Names<'a> {
 
     ghost view = { λ names. names.entries.now };
 
-    ghost invariant = { λ names. Indexes names.entries.now names.places };
+    ghost invariant = { λ names. Indexes names.entries.now names.by_name };
 }
 
 impl<'a> Names<'a> {
     pub fn of(heap: Global, entries: &'a [Entry]) -> Result<Names<'a>, AllocError>
         ensures { IfOk result (λ names. names ≡ entries.now) }
     {
-        let mut places = BTreeMap::new(heap);
-        for (i, entry) in entries.iter().enumerate() {
+        let mut by_name = BTreeMap::new(heap);
+        for entry in entries {
             let name = String::from_str(heap, entry.name.as_str())?;
-            places.insert(name, i)?;
+            by_name.insert(name, entry)?;
         }
-        Ok(Names { entries, places })
+        Ok(Names { entries, by_name })
     }
 
     // The rule of this name.
     pub fn get(&self, name: &str) -> Option<&'a Entry>
         ensures { FoundAs self.now name.now result }
     {
-        let place = self.places.get(name).copied()?;
-        self.entries.get(place)
+        self.by_name.get(name).copied()
     }
 }

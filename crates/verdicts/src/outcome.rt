@@ -9,14 +9,14 @@ use sameness::compare::{CompareFault, Unfit, compare, compare_over};
 use std::fmt;
 
 // The table that a rule is refused in.
-#[derive(Clone, Copy)]
+#[derive(Clone, Copy, Debug, PartialEq, Eq)]
 pub enum Side {
     Old,
     New,
 }
 
 // Kept: a refusal is one of the outcomes that a census counts and a survey prints, and no failure of its maker, so this is no Result.
-#[derive(Clone, Copy)]
+#[derive(Clone, Copy, Debug, PartialEq, Eq)]
 pub enum Outcome {
     // in both tables, and the same
     Keep,
@@ -30,7 +30,7 @@ pub enum Outcome {
 }
 
 // An outcome without what it holds.
-#[derive(Clone, Copy, PartialEq, Eq)]
+#[derive(Clone, Copy, Debug, PartialEq, Eq)]
 pub enum Kind {
     Keep,
     Convert,

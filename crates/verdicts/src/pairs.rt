@@ -4,7 +4,7 @@ ghost use Rattle.std.specs.Prelude.{◌≡◌, replicate};
 use std::fmt;
 use trial::pairs::{LOCALS, NONE, PLACES};
 
-#[derive(Clone, Copy)]
+#[derive(Clone, Copy, Debug, PartialEq, Eq)]
 pub struct PairTable {
     // Kept: an array, since the format has a place for each local of two rules.
     pub places: [u32; PLACES],

@@ -4,7 +4,7 @@ ghost use Rattle.verdicts.specs.Rules.{rules_text};
 
 use std::fmt;
 
-#[derive(Clone, Copy)]
+#[derive(Clone, Copy, Debug, PartialEq, Eq)]
 pub struct Rules(pub usize);
 
 impl fmt::Display for Rules {

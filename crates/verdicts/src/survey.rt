@@ -35,18 +35,21 @@ impl<'a> Survey<'a> {
         ensures lines { IfOk result (λ survey. SurveyOf old.now new.now survey.lines.items) }
         ensures census { IfOk result (λ survey. CensusOf (outcomes_of survey.lines.items) survey.census) }
     {
-        let lines = old_lines(heap, old, new)?;
-        let lines = with_new_lines(heap, lines, old, new)?;
+        let lines = old_lines(heap, old, &Names::of(heap, new)?)?;
+        let lines = with_new_lines(lines, &Names::of(heap, old)?, new)?;
         let census = Census::of_lines(lines.as_slice());
         Ok(Survey { lines, census })
     }
 }
 
-fn old_lines<'a>(heap: Global, old: &'a [Entry], new: &[Entry]) -> Result<Vec<Line<'a>>, AllocError>
+fn old_lines<'a>(
+    heap: Global,
+    old: &'a [Entry],
+    new: &Names<'_>,
+) -> Result<Vec<Line<'a>>, AllocError>
     ensures { IfOk result (λ ls. OldLines new.now old.now ls.items) }
 {
-    let new = Names::of(heap, new)?;
-    old.iter().map(|entry| old_line(entry, &new)).collect(heap)
+    old.iter().map(|entry| old_line(entry, new)).collect(heap)
 }
 
 // The line of a rule of the old table.
@@ -63,14 +66,12 @@ fn old_line<'a>(entry: &'a Entry, new: &Names<'_>) -> Line<'a>
 }
 
 fn with_new_lines<'a>(
-    heap: Global,
     mut lines: Vec<Line<'a>>,
-    old: &[Entry],
+    old: &Names<'_>,
     new: &'a [Entry],
 ) -> Result<Vec<Line<'a>>, AllocError>
     ensures { IfOk result (λ ls. WithNew old.now new.now lines.entry.items ls.items) }
 {
-    let old = Names::of(heap, old)?;
     // Kept: `filter` asks for one function of the rule, and which rule of the name `get` gives is a relation.
     for entry in new {
         let name = entry.name.as_str();

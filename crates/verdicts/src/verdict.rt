@@ -8,7 +8,7 @@ use rule::intake::intake_entry;
 use std::fmt;
 
 // A rule is accepted, or it is refused by this fault.
-#[derive(Clone, Copy)]
+#[derive(Clone, Copy, Debug, PartialEq, Eq)]
 pub struct Verdict(pub Result<(), Fault>);
 
 impl fmt::Display for Verdict {
@@ -27,7 +27,7 @@ pub fn verdict_of(words: &[u32]) -> Verdict
 }
 
 // How many rules are accepted, and how many are refused.
-#[derive(Clone, Copy, Debug, PartialEq)]
+#[derive(Clone, Copy, Debug, PartialEq, Eq)]
 pub struct Tally {
     pub accepted: usize,
     pub refused: usize,

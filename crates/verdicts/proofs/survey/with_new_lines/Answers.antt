@@ -12,7 +12,7 @@ loop-entry-preserved c =
     let new = c.args.new.now in
     let i = c.loop-entry.entry-index in
     let e = c.entry-item.result in
-    let found : FoundAs old (name_of e) c.get.result = rw (← c.as_str-name.ensures.value, ← c.in_ok-old.ensures) c.get.ensures in
+    let found : FoundAs old (name_of e) c.get.result = rw (← c.as_str-name.ensures.value) c.get.ensures in
     elim c.if-is_none.branch [
       | then-is_none+in_ok-push w ↦
           subst (λ v. WithNew old (take (i + 1) new) (vec_items c.args.lines) (vec_items v)) (sym w.lines-is)

@@ -1,5 +1,5 @@
-use Rattle.verdicts.specs.Names.{IndexesBelow}
+use Rattle.verdicts.proofs.Indexing.{IndexesBelow}
 use Rattle.verdicts.proofs.names.Names.of.Given as goal
 
-abbrev pub invariant-loop-i : goal.invariant-loop-i
-invariant-loop-i l = IndexesBelow l.entries l.i l.places
+abbrev pub invariant-loop-entry : goal.invariant-loop-entry
+invariant-loop-entry l = IndexesBelow l.entries l.entry-index l.by_name
