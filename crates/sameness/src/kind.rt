@@ -65,15 +65,10 @@ impl<'w, 'p> Branch<'w, 'p> {
         if is_absent(tail) {
             return Some(Node {
                 code: TUPLE,
-                v: 0,
-                w: 0,
-                kids: &[],
+                ..Node::default()
             });
         }
-        if tail.code == RETURN {
-            return Some(tail);
-        }
-        None
+        (tail.code == RETURN).then_some(tail)
     }
 
     // What a plain block comes to that has this statement and the tail: the return that is all it holds.
@@ -94,10 +89,7 @@ impl<'w, 'p> Branch<'w, 'p> {
             return None;
         }
         let inner = stmt.child(0).node();
-        if inner.code == RETURN {
-            return Some(inner);
-        }
-        None
+        (inner.code == RETURN).then_some(inner)
     }
 
     // What a block comes to, if not itself.
