@@ -7,9 +7,9 @@ use Rattle.rule.specs.Nodes.{Spelt}
 use Rattle.rule.specs.Trees.{Tree, Forest, node, nil, tree_at}
 use Rattle.rule.specs.Scopes.{role, declared, used}
 use Rattle.rule.specs.Intake.{Read, Treelike}
-use Rattle.sameness.specs.Blocks.{one, Inner, Made, Comes}
+use Rattle.sameness.specs.Blocks.{Inner, Made, Comes}
 use Rattle.sameness.specs.Reduction.{is_absent, returns, shape_of_block, reduce, reduce_all}
-use Rattle.sameness.specs.Sameness.{pair}
+use Rattle.sameness.specs.Sameness.{one, pair}
 use Rattle.sameness.specs.Walking.{Held, Low, trees_at, tree_in}
 use Rattle.sameness.proofs.KindTrees.{kind-code, kind-kept, kind-held, held_up}
 use Rattle.sameness.proofs.BlockShapes.{shape-code, block-body, stmt-returns, comes-empty, comes-tail, comes-stmt}

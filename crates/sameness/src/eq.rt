@@ -8,7 +8,7 @@ ghost use Rattle.sameness.specs.Walking.{Pictured, Not, IsPlain};
 use crate::kind::{Branch, Side};
 use crate::words::{eq_words, is_reversed};
 use rule::codes::{BINARY, BLOCK};
-use trial::guard::{Before, Trial};
+use trial::guard::Trial;
 use trial::pairs::{PLACES, paired, record, unpaired};
 
 // A used local of the first rule and one of the second: partners, or both without one and the same.
@@ -76,12 +76,7 @@ fn eq_binary(t: &mut [u32; PLACES], l: Side, r: Side) -> bool
         return eq_reversed(t, l, r);
     }
     {
-        let before = Before::of(t);
-        let mut trial = Trial {
-            table: t,
-            before,
-            kept: false,
-        };
+        let mut trial = Trial::of(t);
         if over_words(trial.table, l, r) {
             trial.kept = true;
             return true;

@@ -3,9 +3,9 @@ ghost use Rattle.std.specs.Prelude.{◌≡◌, ◌<◌, ◌&&◌, length, ◌==�
 ghost use Rattle.rule.specs.Intake.{Treelike};
 ghost use Rattle.rule.specs.Nodes.{Spelt};
 ghost use Rattle.rule.specs.Trees.{tree_at};
-ghost use Rattle.sameness.specs.Blocks.{Comes, Made, one};
+ghost use Rattle.sameness.specs.Blocks.{Comes, Made};
 ghost use Rattle.sameness.specs.Reduction.{reduce};
-ghost use Rattle.sameness.specs.Sameness.{pair};
+ghost use Rattle.sameness.specs.Sameness.{one, pair};
 ghost use Rattle.sameness.specs.Walking.{Held, Low, tree_in};
 
 use rule::codes::{ABSENT, BLOCK_EXPR, EXPR_STMT, RETURN, SEMI_STMT, TUPLE};

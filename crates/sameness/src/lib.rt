@@ -2,7 +2,7 @@
 
 #![tactic(auto)]
 
-ghost use Rattle.sameness.specs.Claims.{Reflexive, Symmetric, Transitive, Decided, TableRenames};
+ghost use Rattle.sameness.specs.Claims.{Reflexive, Symmetric, Transitive, Decided, TableRenames, TestNeverFails};
 ghost use Rattle.sameness.specs.TrialRules.{TrialRules};
 
 pub mod compare;
@@ -22,10 +22,11 @@ pub fn equivalence() -> u8
     0
 }
 
-/// The walk decides sameness, and the table that it leaves is a renaming.
+/// The walk decides sameness, the table that it leaves is a renaming, and its test of two declared locals never fails.
 pub fn deciding() -> u8
     ensures decided { Decided }
     ensures table_renames { TableRenames }
+    ensures test_never_fails { TestNeverFails }
 {
     0
 }

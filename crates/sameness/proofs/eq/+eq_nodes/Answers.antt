@@ -2,7 +2,7 @@ use Rattle.std.proofs.Common.{rules, ◌≡◌, ℕ, ◌<◌, true, min, ◌⊎�
 use Rattle.std.proofs.lemmas.Slice.Zip.{zip_turn, zip_end}
 use Rattle.rule.specs.Trees.{tree_at}
 use Rattle.sameness.proofs.Overs.{going_more, going-fails, going-all, over-unequal, first_holds, not-exchanged, few-operands, exchanged, both-same}
-use Rattle.sameness.specs.Walking.{Low, KindsWalked}
+use Rattle.sameness.specs.Walking.{Low, KindsWalked, KidsWalked}
 use Rattle.sameness.proofs.Asking.{no-binding, second-binding, no-local, second-local, binding-low, local-low, nodes-named}
 use Rattle.sameness.proofs.Walks.{kinds-unequal, kinds-other, kinds-fail, kinds-plain, kinds-by, kinds-bound, kinds-taken, kinds-local}
 use Rattle.sameness.proofs.eq.+eq_nodes.Goals as goal
@@ -74,8 +74,12 @@ eq_qpath-returns-in_default-2 t c =
 
 pub eq_binary-returns-then-over_words : goal.eq_binary-returns-then-over_words
 eq_binary-returns-then-over_words t c =
-    subst (λ z. KindsWalked c.args.l.branch.rule.words.now c.args.l.node c.args.r.branch.rule.words.now c.args.r.node c.args.t.now z true) (sym (c.drop-trial.ensures.keeps refl))
-    (first_holds _ c.args.l.node _ c.args.r.node _ _ c.requires.binary (sym c.if-not-eq_words.ensures) c.if-over_words.ensures)
+    let wl = c.args.l.branch.rule.words.now in
+    let wr = c.args.r.branch.rule.words.now in
+    let k : KidsWalked wl c.args.l.node wr c.args.r.node c.args.t.now c.over_words.new.words true =
+    subst (λ z. KidsWalked wl c.args.l.node wr c.args.r.node z c.over_words.new.words true) c.of-trial.ensures.table c.if-over_words.ensures in
+    subst (λ z. KindsWalked wl c.args.l.node wr c.args.r.node c.args.t.now z true) (sym (c.drop-trial.ensures.keeps refl))
+    (first_holds _ c.args.l.node _ c.args.r.node _ _ c.requires.binary (sym c.if-not-eq_words.ensures) k)
 
 pub eq_reversed-returns-then-not-is_reversed : goal.eq_reversed-returns-then-not-is_reversed
 eq_reversed-returns-then-not-is_reversed t c = not-exchanged _ c.args.l.node _ c.args.r.node _ c.requires.binary (sym c.if-not-is_reversed.ensures) c.requires.direct_fails

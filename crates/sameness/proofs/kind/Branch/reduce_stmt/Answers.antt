@@ -1,8 +1,8 @@
 use Rattle.std.proofs.Common.{◌≡◌, ◌<◌, get_or, sym, refl, ap, ◌∙◌, subst, inl, inr, ⊎_elim, arith}
 use Rattle.rule.specs.Trees.{node, tree_at}
-use Rattle.sameness.specs.Blocks.{one, Inner, Comes}
+use Rattle.sameness.specs.Blocks.{Inner, Comes}
 use Rattle.sameness.specs.Reduction.{code_of, returns as holds_return}
-use Rattle.sameness.specs.Sameness.{pair}
+use Rattle.sameness.specs.Sameness.{one, pair}
 use Rattle.sameness.proofs.Inside.{inside-stmt, return_or_none}
 use Rattle.sameness.proofs.KindTrees.{kind-tree, kind-node, kind-code, kind-absent, kind-held, kids-one}
 use Rattle.sameness.proofs.BlockShapes.{return-kids, tail-some, stmt-kept, stmt-code, stmt-kids, stmt-other}

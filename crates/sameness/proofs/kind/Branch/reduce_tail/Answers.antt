@@ -1,6 +1,7 @@
 use Rattle.std.proofs.Common.{sym, refl, ◌∙◌}
 use Rattle.rule.specs.Trees.{tree_at}
-use Rattle.sameness.specs.Blocks.{one, Comes}
+use Rattle.sameness.specs.Blocks.{Comes}
+use Rattle.sameness.specs.Sameness.{one}
 use Rattle.sameness.proofs.Inside.{inside-empty, inside-tail, return_or_none}
 use Rattle.sameness.proofs.KindTrees.{kind-code, kind-absent}
 use Rattle.sameness.proofs.BlockShapes.{tail-kept}
