@@ -1,5 +1,5 @@
 -- A fact of each number, by the comparison that it stands for.
-use Rattle.std.proofs.Common.{◌≡◌, ℕ, Some, None, Option, sym, ◌∙◌, ap, subst, ⊎_elim}
+use Rattle.std.proofs.Common.{◌≡◌, ℕ, Some, None, Option, sym, ◌∙◌, subst, ⊎_elim}
 use Rattle.std.proofs.lemmas.Bool.{cases_eq, ne_eqb, cond-false}
 use Rattle.rule.specs.declared.comparison.Comparison.{Comparison}
 use Rattle.rule.specs.declared.comparison.Comparison.TheVariants.{Eq, Lt, Le, Ne, Ge, Gt}
@@ -23,6 +23,3 @@ module _ (P : ℕ → Option Comparison → Type 0) (yes : (k : Comparison) → 
       at 12 (yes Eq) (λ n₁. at 13 (yes Lt) (λ n₂. at 14 (yes Le) (λ n₃. at 15 (yes Ne) (λ n₄. at 16 (yes Ge) (λ n₅. at 17 (yes Gt) (λ n₆.
       let n : Other v = λ k. elim k as (λ j. v ≡ comparison_number j → ⊥) [ Eq ↦ n₁ | Lt ↦ n₂ | Le ↦ n₃ | Ne ↦ n₄ | Ge ↦ n₅ | Gt ↦ n₆ ] in
       subst (P v) (sym (other_of v n)) (no v n)))))))
-
-pub number_of : (v : ℕ) (k : Comparison) → comparison_of v ≡ Some k → v ≡ comparison_number k
-number_of v k = by_comparison (λ z o. o ≡ Some k → z ≡ comparison_number k) (λ j e. let g : j ≡ k = cc in ap comparison_number g) (λ z n e. absurd (cc)) v

@@ -1,21 +1,15 @@
 -- The children of a node that are left, one after the other.
-use Rattle.std.proofs.Common.{◌≡◌, ℕ, ◌+◌, ◌-◌, ◌<◌, ◌≤◌, List, [], ◌++◌, length, reverse, get_or, Some, None, Option, sym, refl, ap, ◌∙◌, subst, ⊎_elim, arith}
+use Rattle.std.proofs.Common.{◌≡◌, ℕ, ◌+◌, ◌-◌, ◌<◌, ◌≤◌, List, [], ◌++◌, length, reverse, get_or, Some, None, Option, sym, ap, ◌∙◌, subst, ⊎_elim, arith}
 use Rattle.std.specs.List.{slice_get, flat_map}
 use Rattle.std.proofs.lemmas.List.{at_drop_more, at_drop_all, get_or-reverse, length-reverse}
 use Rattle.std.proofs.lemmas.Bool.{cases_lt}
 use Rattle.std.proofs.lemmas.Option.{slice_get_within, get_or_from_slice_get, slice_get-get_or}
 use Rattle.rule.specs.declared.nodes.Node.{Node}
 use Rattle.sameness.specs.Reducing.{NodeReduced}
-use Rattle.feed.specs.declared.operands.Operands.{Operands}
 use Rattle.feed.specs.declared.way.Way.{Way}
 use Rattle.feed.specs.declared.way.Way.TheVariants.{Direct, Exchanged, ByHash}
-use Rattle.feed.specs.Ways.{way_of, walked_by, walked, hashes_by}
+use Rattle.feed.specs.Ways.{way_of, walked_by, walked}
 use Rattle.feed.specs.Pending.{node_feed, left}
-
-pub no_hashes : (y : Way) (o : Operands) → (y ≡ ByHash → ⊥) → hashes_by y o ≡ []
-no_hashes Direct o n = refl
-no_hashes Exchanged o n = refl
-no_hashes ByHash o n = absurd (n refl)
 
 -- what the code takes for the next child
 pub walked-next : (n : Node) (q : ℕ) {x : Option ℕ} {y : Way} → y ≡ way_of n → x ≡ slice_get (walked_by y n.kids.now) q → x ≡ slice_get (walked n) q

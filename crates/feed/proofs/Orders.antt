@@ -16,8 +16,8 @@ use Rattle.feed.specs.declared.operands.Operands.{Operands}
 use Rattle.feed.specs.declared.way.Way.{Way}
 use Rattle.feed.specs.declared.way.Way.TheVariants.{Direct, Exchanged, ByHash}
 use Rattle.feed.specs.Feed.{Order, ordered, exchanged, unordered, order, fed_v, joined, turned, hashes, in_order, arranged, feed, feeds}
-use Rattle.feed.specs.Ways.{way_by, way_at, fed_as, way_of, walked_by, walked, hashes_by, head_of}
-use Rattle.feed.specs.Pending.{node_feed, node_hash, left, operands_of}
+use Rattle.feed.specs.Ways.{way_by, way_at, fed_as, way_of, walked_by, walked, hashes_in, head_of}
+use Rattle.feed.specs.Pending.{node_feed, node_hash, left, operands_of, noted_by, noted_of}
 use Rattle.feed.proofs.Comparisons.{Other, by_comparison}
 
 ---- the way of a node and the order of its children
@@ -154,13 +154,13 @@ two_numbers (a ∷ (b ∷ (c ∷ xs))) e = absurd (omega arith)
 
 ---- a node by its way
 
-module _ (f : List ℕ → ℕ) (ws : List ℕ) (n : Node) (o : Operands) where
+module _ (f : List ℕ → ℕ) (ws : List ℕ) (n : Node) where
   -- what the children feed in an order, and by a way
   abbrev fed_in : Order → List ℕ → List ℕ
   fed_in r xs = in_order f r (map (node_feed f ws) xs)
 
   abbrev fed_by : Way → List ℕ → List ℕ
-  fed_by y xs = hashes_by y o ++ flat_map (node_feed f ws) (walked_by y xs)
+  fed_by y xs = hashes_in (noted_by y (operands_of f ws n)) ++ flat_map (node_feed f ws) (walked_by y xs)
 
   direct-other : (r : Order) (xs : List ℕ) → (length xs ≡ 2 → ⊥) → fed_in r xs ≡ fed_by Direct xs
   direct-other r xs m = in-order-other f r _ (λ e. m (sym (length-map xs (node_feed f ws)) ∙ e)) ∙ joined-map _ xs
@@ -173,25 +173,25 @@ module _ (f : List ℕ → ℕ) (ws : List ℕ) (n : Node) (o : Operands) where
   unfolding in_order turned joined
   two-exchanged a b = refl
 
-  two-unordered : (a b : ℕ) → n.kids.now ≡ a ∷ (b ∷ []) → o ≡ operands_of f ws n → fed_in unordered (a ∷ (b ∷ [])) ≡ fed_by ByHash (a ∷ (b ∷ []))
+  two-unordered : (a b : ℕ) → n.kids.now ≡ a ∷ (b ∷ []) → fed_in unordered (a ∷ (b ∷ [])) ≡ fed_by ByHash (a ∷ (b ∷ []))
   unfolding in_order hashes operands_of node_hash
-  two-unordered a b e g = rw (g, e) refl
+  two-unordered a b e = rw e refl
 
-  way-order : (y : Way) → WayFacts n y → (y ≡ ByHash → o ≡ operands_of f ws n) → fed_in (order_in n) n.kids.now ≡ fed_by y n.kids.now
-  way-order Direct w g =
+  way-order : (y : Way) → WayFacts n y → fed_in (order_in n) n.kids.now ≡ fed_by y n.kids.now
+  way-order Direct w =
       ⊎_elim (λ (m : length n.kids.now ≡ 2 → ⊥). direct-other (order_in n) n.kids.now m) (λ (e : order_in n ≡ ordered). ap (λ r. fed_in r n.kids.now) e ∙ direct-ordered n.kids.now) w
-  way-order Exchanged w g = let e = two_numbers n.kids.now w.0 in ap₂ fed_in w.1 e ∙ two-exchanged _ _ ∙ ap (fed_by Exchanged) (sym e)
-  way-order ByHash w g = let e = two_numbers n.kids.now w.0 in ap₂ fed_in w.1 e ∙ two-unordered _ _ e (g refl) ∙ ap (fed_by ByHash) (sym e)
+  way-order Exchanged w = let e = two_numbers n.kids.now w.0 in ap₂ fed_in w.1 e ∙ two-exchanged _ _ ∙ ap (fed_by Exchanged) (sym e)
+  way-order ByHash w = let e = two_numbers n.kids.now w.0 in ap₂ fed_in w.1 e ∙ two-unordered _ _ e ∙ ap (fed_by ByHash) (sym e)
 
-  reduced-feed : (way_of n ≡ ByHash → o ≡ operands_of f ws n) → feed f (tree_in ws n) ≡ head_of n o ++ left f ws n 0
+  reduced-feed : feed f (tree_in ws n) ≡ head_of n (noted_of f ws n) ++ left f ws n 0
   unfolding feed arranged head_of left walked
-  reduced-feed g =
+  reduced-feed =
       let e = kids-feed f ws n.kids.now in
       let l : length (feeds f (kids_in ws n)) ≡ length n.kids.now = ap length e ∙ length-map n.kids.now (node_feed f ws) in
-      let r : in_order f (order_in n) (feeds f (kids_in ws n)) ≡ fed_by (way_of n) n.kids.now = ap (in_order f (order_in n)) e ∙ way-order (way_of n) (facts_at n _ refl) g in
+      let r : in_order f (order_in n) (feeds f (kids_in ws n)) ≡ fed_by (way_of n) n.kids.now = ap (in_order f (order_in n)) e ∙ way-order (way_of n) (facts_at n _ refl) in
       ap₂ (λ m ls. n.code ∷ (fed_v n.code (bare_v n.code n.v) ∷ (bare_w n.code n.v n.w ∷ (m ∷ ls)))) l r
 
   -- node i feeds its own words, and then what its children feed that are left: all
-  pub node-feed : (i : ℕ) → NodeReduced ws i n → (way_of n ≡ ByHash → o ≡ operands_of f ws n) → node_feed f ws i ≡ head_of n o ++ left f ws n 0
+  pub node-feed : (i : ℕ) (o : Option Operands) → NodeReduced ws i n → o ≡ noted_of f ws n → node_feed f ws i ≡ head_of n o ++ left f ws n 0
   unfolding node_feed
-  node-feed i r g = ap (feed f) (sym r.tree) ∙ reduced-feed g
+  node-feed i o r e = ap (feed f) (sym r.tree) ∙ reduced-feed ∙ ap (λ z. head_of n z ++ left f ws n 0) (sym e)

@@ -1,5 +1,5 @@
 -- The stack of a walk: what it holds, and what is pending under it.
-use Rattle.std.proofs.Common.{◌≡◌, ℕ, ◌+◌, ◌<◌, ◌≤◌, List, [], ◌∷◌, ◌++◌, length, reverse, Some, None, sym, ap, subst, ◌∙◌, arith, length-append}
+use Rattle.std.proofs.Common.{◌≡◌, ℕ, ◌+◌, ◌<◌, ◌≤◌, List, [], ◌∷◌, ◌++◌, length, reverse, Some, None, Option, sym, ap, subst, ◌∙◌, arith, length-append}
 use Rattle.std.specs.List.{slice_get}
 use Rattle.std.proofs.lemmas.List.{append_assoc, append-nil, reverse-append}
 use Rattle.std.proofs.lemmas.List.Sums.{fold-append}
@@ -10,7 +10,7 @@ use Rattle.feed.specs.declared.operands.Operands.{Operands}
 use Rattle.feed.specs.declared.walk.Frame.{Frame}
 use Rattle.feed.specs.Hashed.{AllReduced}
 use Rattle.feed.specs.Ways.{walked, head_of}
-use Rattle.feed.specs.Pending.{node_feed, left, pending, operands_in, NotedBelow}
+use Rattle.feed.specs.Pending.{node_feed, left, pending, operands_in, AllNoted}
 use Rattle.feed.proofs.Lefts.{left-more, left-none, child-below, few-done}
 use Rattle.feed.proofs.Orders.{node-feed}
 
@@ -39,19 +39,19 @@ walked-out {fed = fed} {f = f} {ws = ws} {ns = ns} {s = s} w e = ap (λ frames. 
 
 ---- a walk
 
-head-long : (n : Node) (o : Operands) → 4 ≤ length (head_of n o)
+head-long : (n : Node) (o : Option Operands) → 4 ≤ length (head_of n o)
 unfolding head_of
 head-long n o = omega arith
 
 -- the words of node i before its children
-abbrev pub head_at : List Node → List Operands → ℕ → List ℕ
+abbrev pub head_at : List Node → List (Option Operands) → ℕ → List ℕ
 head_at ns os i = head_of (kind_in ns i) (operands_in os i)
 
-module _ (f : List ℕ → ℕ) {ws : List ℕ} {ns : List Node} (os : List Operands) {top : ℕ} (a : AllReduced ws ns) (w : top < length ns) (noted : NotedBelow f ws ns os (top + 1)) where
+module _ (f : List ℕ → ℕ) {ws : List ℕ} {ns : List Node} (os : List (Option Operands)) {top : ℕ} (a : AllReduced ws ns) (w : top < length os) (noted : AllNoted f ws ns os) where
   entered : (i : ℕ) → i ≤ top → node_feed f ws i ≡ head_at ns os i ++ left f ws (kind_in ns i) 0
   entered i h =
       let r = a.each i (omega arith) in
-      node-feed f ws (kind_in ns i) (operands_in os i) i r (noted i (omega arith))
+      node-feed f ws (kind_in ns i) i (operands_in os i) r (noted.each i (omega arith))
 
   module _ {S : Type 0} {fed : S → ℕ → S} {begun : S} where
     -- the first node is entered

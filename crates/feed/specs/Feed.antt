@@ -61,10 +61,6 @@ unfoldable mutual
   feeds f nil = []
   feeds f (cons t ts) = feed f t ∷ feeds f ts
 
--- the trees one after the other
-unfoldable pub feed_all : (List ℕ → ℕ) → Forest → List ℕ
-feed_all f ts = joined (feeds f ts)
-
 -- the hash of a rule: a rule is reduced first
 unfoldable pub hash_of : (List ℕ → ℕ) → Tree → ℕ
 hash_of f t = f (feed f (reduce t))

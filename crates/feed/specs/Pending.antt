@@ -1,12 +1,13 @@
 -- What is still to be fed while a node is walked with a stack.
-use Rattle.std.specs.Prelude.{◌≡◌, ℕ, ◌<◌, min, max, List, drop, flat_map, slice_index, slice_index_or}
+use Rattle.std.specs.Prelude.{◌≡◌, ℕ, ◌<◌, ◌≤◌, min, max, Some, None, Option, List, length, drop, flat_map, slice_index, slice_index_or}
 use Rattle.rule.specs.Trees.{tree_at}
 use Rattle.rule.specs.declared.nodes.Node.{Node}
 use Rattle.sameness.specs.Reduction.{reduce}
 use Rattle.sameness.specs.Reducing.{kind_in}
 use Rattle.feed.specs.declared.operands.Operands.{Operands}
 use Rattle.feed.specs.declared.walk.Frame.{Frame}
-use Rattle.feed.specs.declared.way.Way.TheVariants.{ByHash}
+use Rattle.feed.specs.declared.way.Way.{Way}
+use Rattle.feed.specs.declared.way.Way.TheVariants.{Direct, Exchanged, ByHash}
 use Rattle.feed.specs.Feed.{feed}
 use Rattle.feed.specs.Ways.{way_of, walked}
 
@@ -33,10 +34,20 @@ operands_of f ws n =
     let b = node_hash f ws (slice_index n.kids.now 1) in
     record { smaller = min a b; larger = max a b }
 
--- those noted of node i
-abbrev pub operands_in : List Operands → ℕ → Operands
-operands_in os i = slice_index_or os i (record { smaller = 0; larger = 0 })
+-- of an Eq or a Ne these are noted, and of any other node nothing
+abbrev pub noted_by : Way → Operands → Option Operands
+noted_by Direct o = None
+noted_by Exchanged o = None
+noted_by ByHash o = Some o
 
--- of each Eq and Ne among the first m nodes they are noted
-abbrev pub NotedBelow : (List ℕ → ℕ) → List ℕ → List Node → List Operands → ℕ → Type 0
-NotedBelow f ws ns os m = (i : ℕ) → i < m → way_of (kind_in ns i) ≡ ByHash → operands_in os i ≡ operands_of f ws (kind_in ns i)
+abbrev pub noted_of : (List ℕ → ℕ) → List ℕ → Node → Option Operands
+noted_of f ws n = noted_by (way_of n) (operands_of f ws n)
+
+-- what is noted of node i
+abbrev pub operands_in : List (Option Operands) → ℕ → Option Operands
+operands_in os i = slice_index_or os i None
+
+-- it is noted of the first nodes, as many as os has places
+pub record AllNoted (f : List ℕ → ℕ) (ws : List ℕ) (ns : List Node) (os : List (Option Operands)) : Type 0 where
+  pub few : length os ≤ length ns
+  pub each : (i : ℕ) → i < length os → operands_in os i ≡ noted_of f ws (kind_in ns i)

@@ -50,12 +50,11 @@ walked_by ByHash ns = []
 unfoldable pub walked : Node → List ℕ
 walked n = walked_by (way_of n) n.kids.now
 
--- the hashes of the operands, the smaller first
-abbrev pub hashes_by : Way → Operands → List ℕ
-hashes_by Direct o = []
-hashes_by Exchanged o = []
-hashes_by ByHash o = o.smaller ∷ (o.larger ∷ [])
+-- the hashes of the operands that are noted of a node, the smaller first
+abbrev pub hashes_in : Option Operands → List ℕ
+hashes_in None = []
+hashes_in (Some o) = o.smaller ∷ (o.larger ∷ [])
 
 -- the words of a node before those of its children
-unfoldable pub head_of : Node → Operands → List ℕ
-head_of n o = n.code ∷ (fed_v n.code (bare_v n.code n.v) ∷ (bare_w n.code n.v n.w ∷ (length n.kids.now ∷ hashes_by (way_of n) o)))
+unfoldable pub head_of : Node → Option Operands → List ℕ
+head_of n o = n.code ∷ (fed_v n.code (bare_v n.code n.v) ∷ (bare_w n.code n.v n.w ∷ (length n.kids.now ∷ hashes_in o)))

@@ -6,9 +6,8 @@ ghost use Rattle.hashing.specs.Words.{hash_by};
 ghost use Rattle.rule.specs.Trees.{tree_of};
 ghost use Rattle.sameness.specs.Reducing.{RuleReduced};
 
-use crate::operands::Operands;
 use crate::walk::Noted;
-use crate::way::Way;
+use arrayvec::ArrayVec;
 use hashing::hasher::Hasher;
 use rule::fault::Fault;
 use sameness::reducing::{Reduced, reduce_rule};
@@ -22,12 +21,11 @@ fn hash_root<H: Hasher>(words: &[u32], rule: &Reduced) -> u64
     let mut noted = Noted {
         words,
         nodes,
-        operands: [Operands::default(); 2048],
+        operands: ArrayVec::new(),
     };
-    for (i, node) in nodes.iter().enumerate() {
-        if let Way::ByHash = Way::of(*node) {
-            noted.operands[i] = noted.hash_operands::<H>(i);
-        }
+    for node in nodes {
+        let operands = noted.hash_operands::<H>(*node);
+        noted.operands.push(operands);
     }
     noted.hash_node::<H>(nodes.len() - 1)
 }

@@ -1,7 +1,7 @@
 // The hashes of the operands of an Eq or a Ne.
 ghost use Rattle.std.specs.Prelude.{◌≡◌, max, min};
 
-#[derive(Clone, Copy, Default)]
+#[derive(Clone, Copy)]
 pub(crate) struct Operands {
     pub smaller: u64,
     pub larger: u64,

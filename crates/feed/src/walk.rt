@@ -1,8 +1,8 @@
 // The hash of one node by a fresh hasher, as a loop over a stack of nodes.
-ghost use Rattle.std.specs.Prelude.{◌≡◌, ◌+◌, ◌<◌, ◌≤◌, length};
+ghost use Rattle.std.specs.Prelude.{◌≡◌, ℕ, ◌<◌, length, slice_index};
 ghost use Rattle.feed.specs.Hashed.{AllReduced};
-ghost use Rattle.feed.specs.Pending.{NotedBelow, node_hash, operands_in, operands_of};
-ghost use Rattle.feed.specs.Ways.{head_of, way_of};
+ghost use Rattle.feed.specs.Pending.{AllNoted, node_hash, noted_of, operands_in};
+ghost use Rattle.feed.specs.Ways.{head_of};
 ghost use Rattle.hashing.specs.Words.{fed_all, hash_by};
 ghost use Rattle.sameness.specs.Reducing.{kind_in};
 
@@ -13,14 +13,15 @@ use hashing::hasher::Hasher;
 use rule::nodes::{MOST_NODES, Node};
 use sameness::words::bare_w;
 
-// The nodes of a rule, reduced, and the hashes of the operands of each Eq and Ne, by its node. The words are those of
-// the rule: contracts speak of them.
-// Kept: an array, since this crate has no heap.
+// The nodes of a rule, reduced, and of the first nodes what is noted: the hashes of the operands of an Eq or a Ne, and
+// nothing of any other. The words are those of the rule: contracts speak of them.
+// Kept: that the nodes are reduced is said by two contracts, and not by the type. Tried: the fact has equations of trees in
+// it, and what stayed open is that two proofs of such an equation are the same, which a fact of a type needs.
 #[derive(Drop)]
 pub(crate) struct Noted<'a> {
     pub words: &'a [u32],
     pub nodes: &'a [Node<'a>],
-    pub operands: [Operands; 2048],
+    pub operands: ArrayVec<Option<Operands>, MOST_NODES>,
 }
 
 // A node on the stack of a walk, and how many of its children are done.
@@ -30,16 +31,16 @@ pub(crate) struct Frame {
     pub done: u16,
 }
 
-// Feeds the words of a node that come before its children; the operands are those of an Eq or a Ne.
-#[tactic(auto, using(crate::proofs::Lefts::no_hashes), unfolding(crate::specs::Ways::head_of))]
-fn feed_node<H: Hasher>(hasher: &mut H, node: Node, operands: Operands)
+// Feeds the words of a node that come before its children.
+#[tactic(auto, unfolding(crate::specs::Ways::head_of))]
+fn feed_node<H: Hasher>(hasher: &mut H, node: Node, operands: Option<Operands>)
     ensures { hasher.new ≡ fed_all H.fed hasher.old (head_of node.entry operands) }
 {
     hasher.feed(u64::from(node.code));
     hasher.feed(u64::from(fed_v(node)));
     hasher.feed(u64::from(bare_w(node)));
     hasher.feed(node.kids.len() as u64);
-    if let Way::ByHash = Way::of(node) {
+    if let Some(operands) = operands {
         hasher.feed(operands.smaller);
         hasher.feed(operands.larger);
     }
@@ -49,17 +50,17 @@ impl<'a> Noted<'a> {
     // The words of node `i` before its children.
     fn feed_at<H: Hasher>(&self, hasher: &mut H, i: usize)
         requires within { i < length self.now.nodes.now }
-        requires few { length self.now.nodes.now ≤ 2048 }
-        ensures { hasher.new ≡ fed_all H.fed hasher.old (head_of (kind_in self.now.nodes.now i) (operands_in self.now.operands i)) }
+        requires noted { i < length self.now.operands.items }
+        ensures { hasher.new ≡ fed_all H.fed hasher.old (head_of (kind_in self.now.nodes.now i) (operands_in self.now.operands.items i)) }
     {
-        feed_node::<H>(hasher, self.nodes[i], self.operands[i]);
+        feed_node::<H>(hasher, self.nodes[i], self.operands.as_slice()[i]);
     }
 
     // The hash of node `top`.
     pub(crate) fn hash_node<H: Hasher>(&self, top: usize) -> u64
         requires reduced { AllReduced self.now.words.now self.now.nodes.now }
-        requires within { top < length self.now.nodes.now }
-        requires noted { NotedBelow (hash_by H.Hasher) self.now.words.now self.now.nodes.now self.now.operands (top + 1) }
+        requires within { top < length self.now.operands.items }
+        requires noted { AllNoted (hash_by H.Hasher) self.now.words.now self.now.nodes.now self.now.operands.items }
         ensures { result ≡ node_hash (hash_by H.Hasher) self.now.words.now top }
     {
         let mut hasher = H::fresh();
@@ -87,18 +88,19 @@ impl<'a> Noted<'a> {
         hasher.end()
     }
 
-    // The hashes of the operands of node `i`, an Eq or a Ne.
-    #[tactic(auto, using(crate::proofs::Roots::two, crate::proofs::Roots::operand_below), unfolding(crate::specs::Pending::operands_of))]
-    pub(crate) fn hash_operands<H: Hasher>(&self, i: usize) -> Operands
+    // What is noted of a node whose children are noted.
+    #[tactic(auto, using(crate::proofs::Roots::two, crate::proofs::Roots::nothing_noted), unfolding(crate::specs::Pending::operands_of))]
+    pub(crate) fn hash_operands<H: Hasher>(&self, node: Node) -> Option<Operands>
         requires reduced { AllReduced self.now.words.now self.now.nodes.now }
-        requires within { i < length self.now.nodes.now }
-        requires by_hash { way_of (kind_in self.now.nodes.now i) ≡ Way.ByHash }
-        requires noted { NotedBelow (hash_by H.Hasher) self.now.words.now self.now.nodes.now self.now.operands i }
-        ensures { result ≡ operands_of (hash_by H.Hasher) self.now.words.now (kind_in self.now.nodes.now i) }
+        requires below { (q : ℕ) → q < length node.kids.now → slice_index node.kids.now q < length self.now.operands.items }
+        requires noted { AllNoted (hash_by H.Hasher) self.now.words.now self.now.nodes.now self.now.operands.items }
+        ensures { result ≡ noted_of (hash_by H.Hasher) self.now.words.now node.entry }
     {
-        let kids = self.nodes[i].kids;
-        let a = self.hash_node::<H>(kids[0] as usize);
-        let b = self.hash_node::<H>(kids[1] as usize);
-        Operands::of(a, b)
+        if Way::of(node) != Way::ByHash {
+            return None;
+        }
+        let a = self.hash_node::<H>(node.kids[0] as usize);
+        let b = self.hash_node::<H>(node.kids[1] as usize);
+        Some(Operands::of(a, b))
     }
 }

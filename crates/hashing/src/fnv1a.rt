@@ -2,7 +2,8 @@
 ghost use Rattle.std.specs.Prelude.{◌≡◌};
 ghost use Rattle.hashing.specs.Fnv1a.{fnv1a_start, fnv1a_from, fnv1a_of, fnv1a_word, le_bytes_of};
 
-use crate::hasher::{Hasher, hash_words};
+use crate::hasher::Hasher;
+use crate::words::hash_words;
 
 const START: u64 = 0xcbf2_9ce4_8422_2325;
 

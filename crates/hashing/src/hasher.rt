@@ -1,8 +1,6 @@
 // The interface of a hasher.
 ghost use Rattle.std.specs.Prelude.{◌≡◌, ℕ};
 
-pub use crate::words::hash_words;
-
 /// A hasher of 64-bit words.
 ///
 /// Contract:

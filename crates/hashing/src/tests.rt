@@ -1,8 +1,9 @@
 // Hashes on examples.
 use crate::fnv1a::{Fnv1a, fnv1a_bytes, fnv1a_words};
-use crate::hasher::{Hasher, hash_words};
+use crate::hasher::Hasher;
 use crate::named::{HasherName, UnknownHasher};
 use crate::rotating::Rotating;
+use crate::words::hash_words;
 
 // The published values of the 64-bit function.
 #[test]

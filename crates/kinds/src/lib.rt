@@ -1,3 +1,5 @@
+// Rules and names as kinds of entry.
+
 #![tactic(auto)]
 
 pub mod names;

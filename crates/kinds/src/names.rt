@@ -75,9 +75,10 @@ impl Kind for Names {
     fn hash<H: Hasher>(&self, run: &[u8]) -> u64 {
         let mut hasher = H::fresh();
         hasher.feed(run.len() as u64);
-        for byte in run {
+        let fed = run.iter().fold(hasher, |mut hasher, byte| {
             hasher.feed(u64::from(*byte));
-        }
-        hasher.end()
+            hasher
+        });
+        fed.end()
     }
 }

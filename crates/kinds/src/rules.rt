@@ -25,7 +25,9 @@ use sameness::compare::compare_over;
 use trial::pairs::{NONE, PLACES};
 
 /// Why a run of words is no rule that can be entered.
-#[derive(Clone, Copy)]
+// Kept: a fault in a struct of its own, since the trait that numbers it and the fault belong to two other crates, and neither
+// of these is above the other. A third crate below both, for one trait, is no plainer.
+#[derive(Clone, Copy, Debug, PartialEq, Eq)]
 pub struct RuleFault(pub Fault);
 
 impl Numbered for RuleFault {

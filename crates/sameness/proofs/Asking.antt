@@ -2,10 +2,18 @@
 use Rattle.std.proofs.Common.{◌≡◌, ℕ, ◌<◌, Bool, true, List, Some, None, sym, ◌∙◌, subst, arith}
 use Rattle.std.proofs.lemmas.Bool.Decides.{nat_tests}
 use Rattle.rule.specs.declared.nodes.Node.{Node}
-use Rattle.rule.specs.Nodes.{local_of}
+use Rattle.rule.specs.Nodes.{declared_by, local_of}
 use Rattle.sameness.specs.Deciding.{direct_test}
 use Rattle.sameness.specs.Walking.{Held, NodesWalked}
 use Rattle.sameness.proofs.Outcomes.{direct-code, direct-path, low-declared, low-used}
+
+---- the local that a node declares
+
+pub declares-local : (n : Node) (x : ℕ) → declared_by n ≡ Some x → (n.code ≡ 41) × (n.v ≡ x)
+declares-local n x e = grind (arith, nat_tests)
+
+pub no-binding : (n : Node) → declared_by n ≡ None → n.code ≡ 41 → ⊥
+no-binding n e k = grind (arith, nat_tests)
 
 ---- the local that a node uses
 
@@ -23,8 +31,13 @@ module _ (l r : Node) (x : direct_test l.code l.v l.w r.code r.v r.w ≡ true) w
   second-local n k =
       no-local r n (sym (direct-code l.code l.v l.w r.code r.v r.w x) ∙ k.0, sym (direct-path l.code l.v l.w r.code r.v r.w x k.0) ∙ k.1)
 
-  pub binding-low : (wa wb : List ℕ) (i j : ℕ) → Held wa l i → Held wb r j → l.code ≡ 41 → (l.v < 1024) × (r.v < 1024)
-  binding-low wa wb i j d e c = (low-declared l.code l.v l.w c d.low, low-declared r.code r.v r.w (sym (direct-code l.code l.v l.w r.code r.v r.w x) ∙ c) e.low)
+  -- both declare one, or neither does
+  pub second-binding : declared_by r ≡ None → l.code ≡ 41 → ⊥
+  second-binding n k = no-binding r n (sym (direct-code l.code l.v l.w r.code r.v r.w x) ∙ k)
+
+-- a declared local
+pub binding-low : (ws : List ℕ) (n : Node) (i x : ℕ) → Held ws n i → declared_by n ≡ Some x → x < 1024
+binding-low ws n i x d e = let a = declares-local n x e in subst (λ z. z < 1024) a.1 (low-declared n.code n.v n.w a.0 d.low)
 
 -- a used local
 pub local-low : (ws : List ℕ) (n : Node) (i x : ℕ) → Held ws n i → local_of n ≡ Some x → x < 1024

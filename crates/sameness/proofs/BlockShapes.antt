@@ -2,9 +2,8 @@
 use Rattle.std.proofs.Common.{◌≡◌, ℕ, true, false, ◌&&◌, eqb, ◌⊎◌, List, [], ◌∷◌, length, sym, refl, ap, ◌∙◌, inl, inr, arith}
 use Rattle.std.proofs.lemmas.Bool.{eqb-true, eq-eqb, ne_eqb, cond-true, cond-false, and_parts, and_left, and_right, and_from, or_left, or_right, or_from}
 use Rattle.rule.specs.Trees.{Tree, Forest, node, nil, cons}
-use Rattle.sameness.specs.Blocks.{one}
 use Rattle.sameness.specs.Reduction.{kept, code_of, children_of, first_of, is_absent, is_return, returns, shape_of_body, shape_of_block, shape, shaped, reduce, reduce_all}
-use Rattle.sameness.specs.Sameness.{pair}
+use Rattle.sameness.specs.Sameness.{one, pair}
 use Rattle.sameness.specs.Walking.{trees_at}
 
 ---- tests on a tree

@@ -1,37 +1,44 @@
 -- The node that is found inside a block shows what a block expression over it comes to.
-use Rattle.std.proofs.Common.{◌≡◌, ℕ, ◌<◌, ◌≤◌, true, false, ◌⊎◌, List, [], length, get_or, Some, None, Option, sym, refl, ap, ◌∙◌, subst, ⊎_elim, arith}
-use Rattle.std.specs.Borrow.{Bor}
+use Rattle.std.proofs.Common.{◌≡◌, ℕ, ◌<◌, ◌≤◌, Bool, true, false, eqb, ◌⊎◌, List, [], length, get_or, Some, None, Option, sym, refl, ap, ◌∙◌, subst, ⊎_elim, arith}
+use Rattle.std.specs.Bool.{then_some}
+use Rattle.std.proofs.lemmas.Bool.{eqb-true, eqb-false}
 use Rattle.rule.specs.declared.nodes.Node.{Node}
 use Rattle.rule.specs.Nodes.{Spelt}
 use Rattle.rule.specs.Trees.{Tree, Forest, node, nil, tree_at}
 use Rattle.rule.specs.Scopes.{role, declared, used}
 use Rattle.rule.specs.Intake.{Read, Treelike}
-use Rattle.sameness.specs.Blocks.{one, Inner, Made, Comes}
+use Rattle.sameness.specs.Blocks.{Inner, Made, Comes}
 use Rattle.sameness.specs.Reduction.{is_absent, returns, shape_of_block, reduce, reduce_all}
-use Rattle.sameness.specs.Sameness.{pair}
+use Rattle.sameness.specs.Sameness.{one, pair}
 use Rattle.sameness.specs.Walking.{Held, Low, trees_at, tree_in}
 use Rattle.sameness.proofs.KindTrees.{kind-code, kind-kept, kind-held, held_up}
 use Rattle.sameness.proofs.BlockShapes.{shape-code, block-body, stmt-returns, comes-empty, comes-tail, comes-stmt}
 
 ---- an empty tuple
 
-abbrev pub unit_of : Bor (List ℕ) → Node
-unit_of b = record { code = 33; v = 0; w = 0; kids = b }
+module _ (ws : List ℕ) (k : Node) (c : k.code ≡ 33) (v : k.v ≡ 0) (w : k.w ≡ 0) (e : k.kids.now ≡ []) where
+  unit-tree : tree_in ws k ≡ node 33 0 0 nil
+  unfolding trees_at reduce_all
+  unit-tree = rw (c, v, w, e) refl
 
-unit-tree : (ws : List ℕ) (b : Bor (List ℕ)) → b.now ≡ [] → tree_in ws (unit_of b) ≡ node 33 0 0 nil
-unfolding trees_at reduce_all
-unit-tree ws b e = ap (λ ks. node 33 0 0 (reduce_all (trees_at ws ks))) e
+  unit-held : (top : ℕ) → Held ws k top
+  unfolding role declared used
+  unit-held top =
+      let l : length k.kids.now ≡ 0 = ap length e in
+      record { within = omega arith; below = λ q m. absurd (omega arith); low = λ x m. rw c refl; kids_low = λ q m. absurd (omega arith) }
 
-unit-held : (ws : List ℕ) (b : Bor (List ℕ)) (top : ℕ) → b.now ≡ [] → Held ws (unit_of b) top
-unfolding role declared used
-unit-held ws b top e =
-    let l : length b.now ≡ 0 = ap length e in
-    record { within = omega arith; below = λ q m. absurd (omega arith); low = λ x m. refl; kids_low = λ q m. absurd (omega arith) }
-
-pub inside-empty : (ws : List ℕ) (b : Bor (List ℕ)) (top : ℕ) (t : Tree) → b.now ≡ [] → is_absent t ≡ true → (u : ℕ) → Inner ws (node 94 0 u (one t)) top (unit_of b)
-inside-empty ws b top t e a u = record { tree = λ v w. unit-tree ws b e ∙ sym (comes-empty v w u t a); held = unit-held ws b top e }
+  pub inside-empty : (top : ℕ) (t : Tree) → is_absent t ≡ true → (u : ℕ) → Inner ws (node 94 0 u (one t)) top k
+  inside-empty top t a u = record { tree = λ x y. unit-tree ∙ sym (comes-empty x y u t a); held = unit-held top }
 
 ---- a return
+
+-- a node is the answer where it is a return, and otherwise there is none
+pub return_or_none : (Q : Option Node → Type 0) (k : Node) {r : Option Node} → r ≡ then_some (eqb k.code 31) k → (k.code ≡ 31 → Q (Some k)) → ((k.code ≡ 31 → ⊥) → Q None) → Q r
+return_or_none Q k e y n = subst Q (sym e) (go (eqb k.code 31) refl)
+  where
+    go : (b : Bool) → eqb k.code 31 ≡ b → Q (then_some b k)
+    go true h = y (eqb-true _ _ h)
+    go false h = n (eqb-false _ _ h)
 
 module _ (ws os : List ℕ) (d : Read ws os) (t : Treelike ws) where
   return-tree : (i : ℕ) → i < length os → (k : Node) → Spelt ws (get_or os i 0) k → k.code ≡ 31 → tree_in ws k ≡ reduce (tree_at ws i)

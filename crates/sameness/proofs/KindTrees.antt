@@ -8,9 +8,8 @@ use Rattle.rule.specs.Intake.{Read, Treelike}
 use Rattle.rule.proofs.Fitting.{kid-below}
 use Rattle.rule.proofs.Grown.{tree-read}
 use Rattle.rule.proofs.Laid.{read_fits}
-use Rattle.sameness.specs.Blocks.{one}
 use Rattle.sameness.specs.Reduction.{kept, code_of, is_absent, shape, reduce}
-use Rattle.sameness.specs.Sameness.{pair}
+use Rattle.sameness.specs.Sameness.{one, pair}
 use Rattle.sameness.specs.Walking.{Held, Low, trees_at, tree_in}
 use Rattle.sameness.proofs.Lowness.{low-own, low-kid}
 use Rattle.sameness.proofs.BlockShapes.{absent-kids}

@@ -2,7 +2,7 @@
 use Rattle.std.proofs.Common.{◌≡◌, ℕ, ◌+◌, Bool, true, false, not, ◌&&◌, sym, refl, ap, ◌∙◌, subst, ap₂, arith}
 use mathlib.Core.Path.{fun_ext}
 use Rattle.rule.specs.Trees.{Tree, Forest, node, nil, cons}
-use Rattle.rule.specs.Scopes.{role, declared, used, decls, decls_all, uses_of, uses_all, compares}
+use Rattle.rule.specs.Scopes.{role, declared, decls, decls_all, compares}
 use Rattle.rule.specs.Intake.{barred}
 use Rattle.sameness.specs.Reduction.{Shape, shape, shaped, reduce, reduce_all}
 use Rattle.sameness.specs.Sameness.{clean, clean_all}
@@ -29,27 +29,6 @@ mutual
   pub reduce_all-decls : (x : ℕ) (ts : Forest) → decls_all x (reduce_all ts) ≡ decls_all x ts
   reduce_all-decls x nil = refl
   reduce_all-decls x (cons t ts) = ap₂ ◌+◌ (reduce-decls x t) (reduce_all-decls x ts)
-
----- uses
-
-shaped-uses : (x v w : ℕ) {c : ℕ} {ts : Forest} {s : Shape} → View c ts s
-    → uses_all x (reduce_all ts) ≡ uses_all x ts → uses_of x (shaped s c v w (reduce_all ts)) ≡ uses_all x ts + used x (role c v w)
-unfolding uses_of uses_all used role reduce reduce_all shaped shape
-shaped-uses x v w is_empty ih = refl
-shaped-uses x v w is_tail ih = omega arith
-shaped-uses x v w is_96 ih = omega arith
-shaped-uses x v w is_97 ih = omega arith
-shaped-uses x v w (is_kept {c} {ts}) ih = ap (λ n. n + used x (role c v w)) ih
-
-mutual
-  unfolding uses_of uses_all reduce reduce_all
-
-  pub reduce-uses : (x : ℕ) (t : Tree) → uses_of x (reduce t) ≡ uses_of x t
-  reduce-uses x (node c v w ts) = shaped-uses x v w (view c ts) (reduce_all-uses x ts)
-
-  pub reduce_all-uses : (x : ℕ) (ts : Forest) → uses_all x (reduce_all ts) ≡ uses_all x ts
-  reduce_all-uses x nil = refl
-  reduce_all-uses x (cons t ts) = ap₂ ◌+◌ (reduce-uses x t) (reduce_all-uses x ts)
 
 ---- what reaches out of a part
 

@@ -1,7 +1,7 @@
 -- A table in memory: how it begins, what a new pair changes, and what it says of two locals.
 use Rattle.std.proofs.Common.{◌≡◌, ℕ, ◌+◌, ◌<◌, ◌≤◌, Bool, true, false, cond, ◌&&◌, eqb, List, length, get_or, set, sym, refl, ap, ◌∙◌, ⊎_elim, arith, length-set}
 use Rattle.std.proofs.lemmas.List.{get_or-set_same, get_or-set_other}
-use Rattle.std.proofs.lemmas.Bool.{cases_eq, eq-eqb, ne_eqb, and_parts, and_right}
+use Rattle.std.proofs.lemmas.Bool.{cases_eq, eq-eqb, ne_eqb, and_right}
 use Rattle.sameness.specs.Walking.{LowTable}
 use Rattle.sameness.specs.Deciding.{Table, blank, add, Found, absent, found, ahead, behind, joined, matched, is_free, fresh, entry, Shows}
 

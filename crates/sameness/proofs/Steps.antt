@@ -1,11 +1,10 @@
 -- The walk and the reduction one step at a time, as equations: what uses them need not open the definitions.
-use Rattle.std.proofs.Common.{◌≡◌, ℕ, not, ◌&&◌, refl, ap}
+use Rattle.std.proofs.Common.{◌≡◌, ℕ, refl, ap}
 use Rattle.rule.specs.Trees.{Tree, Forest, node, nil, cons}
-use Rattle.rule.specs.Scopes.{declares, uses, plain, role}
-use Rattle.rule.specs.Intake.{barred}
+use Rattle.rule.specs.Scopes.{plain, role}
 use Rattle.sameness.specs.Reduction.{kept, shape, shaped, reduce, reduce_all}
-use Rattle.sameness.specs.Sameness.{pair, clean, clean_all}
-use Rattle.sameness.specs.Deciding.{Table, add, fresh, matched, Outcome, fails, holds, and_then, or_else, given, direct_test, reversed_test, at_roles, exchanging, decide, decide_all}
+use Rattle.sameness.specs.Sameness.{pair}
+use Rattle.sameness.specs.Deciding.{Table, Outcome, fails, holds, and_then, or_else, given, direct_test, reversed_test, at_roles, exchanging, decide, decide_all}
 
 ---- the walk
 
@@ -49,14 +48,6 @@ exchanging-pair k a b P = refl
 
 ---- what two nodes do with locals
 
-pub at_roles-declares : (x y : ℕ) (P : Table) → at_roles (declares x) (declares y) P ≡ given (fresh P x y) (holds (add x y P))
-unfolding at_roles
-at_roles-declares x y P = refl
-
-pub at_roles-uses : (x y : ℕ) (P : Table) → at_roles (uses x) (uses y) P ≡ given (matched P x y) (holds P)
-unfolding at_roles
-at_roles-uses x y P = refl
-
 pub at_roles-plain : (P : Table) → at_roles plain plain P ≡ holds P
 unfolding at_roles
 at_roles-plain P = refl
@@ -75,13 +66,3 @@ reduce_all-nil = refl
 pub reduce_all-cons : (t : Tree) (ts : Forest) → reduce_all (cons t ts) ≡ cons (reduce t) (reduce_all ts)
 unfolding reduce_all reduce
 reduce_all-cons t ts = refl
-
----- cleanness and declarations
-
-pub clean-node : (c v w : ℕ) (ts : Forest) → clean (node c v w ts) ≡ (not (barred c) && clean_all ts)
-unfolding clean clean_all
-clean-node c v w ts = refl
-
-pub clean_all-cons : (t : Tree) (ts : Forest) → clean_all (cons t ts) ≡ (clean t && clean_all ts)
-unfolding clean_all clean
-clean_all-cons t ts = refl

@@ -2,40 +2,17 @@
 use Rattle.std.proofs.Common.{◌≡◌, ℕ, ◌+◌, ◌≤◌, cond, eqb, refl, ap, ◌∙◌, ap₂, arith}
 use Rattle.std.proofs.lemmas.Bool.{eq-eqb}
 use Rattle.rule.specs.Trees.{Tree, Forest, node, nil, cons}
-use Rattle.rule.specs.Scopes.{Role, declares, uses, plain, role, declared, decls, decls_all, SoundScopes}
+use Rattle.rule.specs.Scopes.{Role, declares, uses, plain, role, declared, decls, decls_all}
 use Rattle.sameness.specs.Reduction.{reduce}
 use Rattle.sameness.specs.Sameness.{pair}
-use Rattle.sameness.specs.Deciding.{Table, blank, add, matched, Outcome, fails, holds, and_then, or_else, given, direct_test, reversed_test, at_roles, exchanging, decide, decide_all}
+use Rattle.sameness.specs.Deciding.{Table, blank, add, Outcome, fails, holds, and_then, or_else, given, direct_test, reversed_test, at_roles, exchanging, decide, decide_all}
+use Rattle.sameness.specs.Freely.{at_roles_freely, decide_freely, decide_all_freely}
+use Rattle.sameness.specs.Claims.{TestNeverFails}
 use Rattle.sameness.proofs.Steps.{decide-node, decide_all-nil, decide_all-over, decide_all-short, decide_all-cons}
 use Rattle.sameness.proofs.Runs.{decide-run, decide_all-run}
 use Rattle.sameness.proofs.Tables.{times_l, times_r, fresh-from}
 use Rattle.sameness.proofs.Frames.{run-frame, runs-frame}
 use Rattle.sameness.proofs.Theorems.{reduced-sound}
-
----- the walk without the test
-
-abbrev pub at_roles_freely : Role → Role → Table → Outcome
-at_roles_freely (declares x) (declares y) P = holds (add x y P)
-at_roles_freely (declares x) (uses y) P = fails
-at_roles_freely (declares x) plain P = fails
-at_roles_freely (uses x) (declares y) P = fails
-at_roles_freely (uses x) (uses y) P = given (matched P x y) (holds P)
-at_roles_freely (uses x) plain P = fails
-at_roles_freely plain (declares y) P = fails
-at_roles_freely plain (uses y) P = fails
-at_roles_freely plain plain P = holds P
-
-unfoldable mutual
-  pub decide_freely : Tree → Tree → Table → Outcome
-  decide_freely (node c v w ts) (node c' v' w' us) P =
-      or_else (given (direct_test c v w c' v' w') (and_then (decide_all_freely ts us P) (at_roles_freely (role c v w) (role c' v' w'))))
-      (given (reversed_test c v w c' v' w') (exchanging (decide_all_freely ts) us P))
-
-  pub decide_all_freely : Forest → Forest → Table → Outcome
-  decide_all_freely nil nil P = holds P
-  decide_all_freely nil (cons u us) P = fails
-  decide_all_freely (cons t ts) nil P = fails
-  decide_all_freely (cons t ts) (cons u us) P = and_then (decide_freely t u P) (decide_all_freely ts us)
 
 ---- no local is noted more than once
 
@@ -94,8 +71,7 @@ mutual
       decide_all-freely ts us P₁ (λ x. omega (arith, f.left x, h.0 x), λ y. omega (arith, f.right y, h.1 y))) in
       decide_all-cons t ts u us P ∙ (rest ∙ ap (λ o. and_then o (decide_all_freely ts us)) first)
 
--- for rules with sound scopes the test never fails
-pub test-never-fails : (t u : Tree) → SoundScopes t → SoundScopes u → decide (reduce t) (reduce u) blank ≡ decide_freely (reduce t) (reduce u) blank
+pub test-never-fails : TestNeverFails
 test-never-fails t u s s' =
     let a = reduced-sound t s in
     let b = reduced-sound u s' in

@@ -5,10 +5,10 @@ use Rattle.trial.specs.Table.{paired, unpaired, recorded}
 use Rattle.trial.proofs.Recording.{paired-in, unpaired-in, recorded-in}
 use Rattle.trial.proofs.Extending.{extends-refl, extends-trans, unpaired-extends}
 use Rattle.rule.specs.declared.nodes.Node.{Node}
-use Rattle.rule.specs.Nodes.{local_of}
-use Rattle.sameness.specs.Deciding.{Table, add, Outcome, holds, given, direct_test, matched, fresh, Shows}
-use Rattle.sameness.specs.Walking.{Pictured, Answers, KindsWalked, KidsWalked, Not}
-use Rattle.sameness.proofs.Asking.{uses-local}
+use Rattle.rule.specs.Nodes.{declared_by, local_of}
+use Rattle.sameness.specs.Deciding.{Table, add, Outcome, holds, given, direct_test, matched, fresh, decide, Shows}
+use Rattle.sameness.specs.Walking.{Pictured, Answers, KindsWalked, KidsWalked, Not, IsPlain, tree_in}
+use Rattle.sameness.proofs.Asking.{declares-local, uses-local}
 use Rattle.sameness.proofs.Outcomes.{unequal, kids-fail, kids-hold, at_plain, at-binding, at_local}
 use Rattle.sameness.proofs.Shown.{fresh-shown, matched-shown, shows-set}
 
@@ -59,36 +59,32 @@ module _ (wa : List ℕ) (l : Node) (wb : List ℕ) (r : Node) where
       }
 
   -- a yes or no of the children is that of the whole
-  pub kinds-by : (t t' : List ℕ) (res : Bool) → Not 14 l → Not 41 l → Not 70 l → Direct ≡ true → KidsWalked wa l wb r t t' res → KindsWalked wa l wb r t t' res
-  kinds-by t t' true n m o d k = kinds-plain t t' n m (λ e. o e.0) d k
-  kinds-by t t' false n m o d k = kinds-fail t t' n d k
+  pub kinds-by : (t t' : List ℕ) (res : Bool) → IsPlain l → Direct ≡ true → KidsWalked wa l wb r t t' res → KindsWalked wa l wb r t t' res
+  kinds-by t t' true p d k = kinds-plain t t' p.not_binary p.not_binding (λ e. p.not_path e.0) d k
+  kinds-by t t' false p d k = kinds-fail t t' p.not_binary d k
 
-  pub kinds-bound : (t t' : List ℕ) → l.code ≡ 41 → Direct ≡ true → length t' ≡ 2048 → l.v < 1024 → r.v < 1024 → unpaired t' l.v r.v ≡ true
-      → KidsWalked wa l wb r t t' true → KindsWalked wa l wb r t (recorded t' l.v r.v) true
-  kinds-bound t t' e d m lx ly u k =
-      let n : Not 14 l = λ f. omega arith in
-      record {
-        grows = extends-trans t t' (recorded t' l.v r.v) k.grows (unpaired-extends t' l.v r.v u);
-        answers = λ P p.
-            let a = k.answers P p in
-            let f : fresh a.0 l.v r.v ≡ true = fresh-unpaired a.0 t' l.v r.v a.2 m lx ly ∙ u in (
-              add l.v r.v a.0,
-              kids-hold _ _ _ _ _ _ _ _ P a.0 n d a.1 ∙ at-binding _ _ _ _ _ _ a.0 d e ∙ ap (λ b. given b (holds (add l.v r.v a.0))) f,
-              pictured-more a.0 t' l.v r.v a.2 m lx ly,
-            );
-      }
+  -- two bindings, of x and of y
+  module _ (t t' : List ℕ) (x y : ℕ) (u : declared_by l ≡ Some x) (v : declared_by r ≡ Some y) (d : Direct ≡ true) (m : length t' ≡ 2048) (lx : x < 1024) (ly : y < 1024) (k : KidsWalked wa l wb r t t' true) where
+    bound : (P : Table) (p : Pictured P t) → decide (tree_in wa l) (tree_in wb r) P ≡ given (unpaired t' x y) (holds (add x y (k.answers P p).0))
+    bound P p =
+        let a = k.answers P p in
+        let e = declares-local l x u in
+        let f = declares-local r y v in
+        let n : Not 14 l = λ z. omega (arith, e.0) in
+        kids-hold _ _ _ _ _ _ _ _ P a.0 n d a.1 ∙ at-binding _ _ _ _ _ _ a.0 d e.0 ∙ ap₂ (λ i j. given (fresh a.0 i j) (holds (add i j a.0))) e.1 f.1
+        ∙ ap (λ b. given b (holds (add x y a.0))) (fresh-unpaired a.0 t' x y a.2 m lx ly)
 
-  pub kinds-taken : (t t' : List ℕ) → l.code ≡ 41 → Direct ≡ true → length t' ≡ 2048 → l.v < 1024 → r.v < 1024 → unpaired t' l.v r.v ≡ false
-      → KidsWalked wa l wb r t t' true → KindsWalked wa l wb r t t' false
-  kinds-taken t t' e d m lx ly u k =
-      let n : Not 14 l = λ f. omega arith in
-      record {
-        grows = k.grows;
-        answers = λ P p.
-            let a = k.answers P p in
-            let f : fresh a.0 l.v r.v ≡ false = fresh-unpaired a.0 t' l.v r.v a.2 m lx ly ∙ u in
-            kids-hold _ _ _ _ _ _ _ _ P a.0 n d a.1 ∙ at-binding _ _ _ _ _ _ a.0 d e ∙ ap (λ b. given b (holds (add l.v r.v a.0))) f;
-      }
+    pub kinds-bound : unpaired t' x y ≡ true → KindsWalked wa l wb r t (recorded t' x y) true
+    kinds-bound h =
+        record {
+          grows = extends-trans t t' (recorded t' x y) k.grows (unpaired-extends t' x y h);
+          answers = λ P p.
+              let a = k.answers P p in
+              (add x y a.0, bound P p ∙ ap (λ b. given b (holds (add x y a.0))) h, pictured-more a.0 t' x y a.2 m lx ly);
+        }
+
+    pub kinds-taken : unpaired t' x y ≡ false → KindsWalked wa l wb r t t' false
+    kinds-taken h = record { grows = k.grows; answers = λ P p. bound P p ∙ ap (λ b. given b (holds (add x y (k.answers P p).0))) h }
 
   answered : (res : Bool) (Q : Table) (t : List ℕ) (o : Outcome) → o ≡ given res (holds Q) → Pictured Q t → Answers res t o
   answered true Q t o e p = (Q, e, p)

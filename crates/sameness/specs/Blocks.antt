@@ -1,12 +1,10 @@
 -- What the functions answer that look into a block for what it comes to.
 use Rattle.std.specs.Prelude.{◌≡◌, ℕ, List, Some, None, Option}
-use Rattle.rule.specs.Trees.{Tree, Forest, node, nil, cons}
+use Rattle.rule.specs.Trees.{Tree, Forest, node}
 use Rattle.rule.specs.declared.nodes.Node.{Node}
 use Rattle.sameness.specs.Reduction.{kept, shape_of_body, shape_of_block, reduce}
+use Rattle.sameness.specs.Sameness.{one}
 use Rattle.sameness.specs.Walking.{Held, tree_in}
-
-abbrev pub one : Tree → Forest
-one t = cons t nil
 
 -- a node that shows what each block expression over a block comes to
 pub record Inner (ws : List ℕ) (block : Tree) (top : ℕ) (k : Node) : Type 0 where

@@ -5,6 +5,7 @@ use Rattle.rule.specs.Scopes.{SoundScopes}
 use Rattle.sameness.specs.Reduction.{reduce}
 use Rattle.sameness.specs.Sameness.{Agree, Partner, declarations, clean, Same}
 use Rattle.sameness.specs.Deciding.{Table, blank, holds, decide, toward, backward}
+use Rattle.sameness.specs.Freely.{decide_freely}
 
 ---- sameness is an equivalence of rules that are not the same as nothing
 
@@ -27,3 +28,7 @@ abbrev pub TableRenames : Type 0
 TableRenames =
     (t u : Tree) (P : Table) → SoundScopes t → SoundScopes u → decide (reduce t) (reduce u) blank ≡ holds P
     → Agree (Partner (toward P) (backward P) (declarations (reduce t)) (declarations (reduce u))) (reduce t) (reduce u)
+
+-- of two locals that are declared neither ever has a partner yet: the walk that does not test it is the same walk
+abbrev pub TestNeverFails : Type 0
+TestNeverFails = (t u : Tree) → SoundScopes t → SoundScopes u → decide (reduce t) (reduce u) blank ≡ decide_freely (reduce t) (reduce u) blank

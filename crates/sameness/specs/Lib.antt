@@ -1,6 +1,7 @@
 pub mod Reduction
 pub mod Sameness
 pub mod Deciding
+pub mod Freely
 pub mod Claims
 pub mod TrialRules
 pub mod Walking

@@ -47,6 +47,9 @@ pub record Reversed (c v w c' v' w' : ℕ) : Type 0 where
   pub reverses : Reverses v v'
   pub same : w ≡ w'
 
+abbrev pub one : Tree → Forest
+one t = cons t nil
+
 abbrev pub pair : Tree → Tree → Forest
 pair a b = cons a (cons b nil)
 

@@ -1,12 +1,9 @@
 -- Rules that are the same, and rules that are not, written out.
 use Rattle.std.specs.Prelude.{ℕ}
 use Rattle.rule.specs.Trees.{Tree, Forest, node, nil, cons}
-use Rattle.sameness.specs.Sameness.{pair, Same}
+use Rattle.sameness.specs.Sameness.{one, pair, Same}
 
 ---- builders
-
-abbrev pub one : Tree → Forest
-one t = cons t nil
 
 -- what stands where a part is left out
 abbrev pub left_out : Tree

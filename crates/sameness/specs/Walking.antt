@@ -67,6 +67,12 @@ BothWalked a b u v t t' r = Walked (λ P. and_then (decide (reduce a) (reduce u)
 abbrev pub Not : ℕ → Node → Type 0
 Not c k = k.code ≡ c → ⊥
 
+-- a node that is read one way and links no locals: no binary expression (14), no binding (41) and no path (70)
+pub record IsPlain (k : Node) : Type 0 where
+  pub not_binary : Not 14 k
+  pub not_binding : Not 41 k
+  pub not_path : Not 70 k
+
 -- the reading of a binary expression as it stands fails
 abbrev pub FirstFails : List ℕ → Node → List ℕ → Node → List ℕ → Type 0
 FirstFails wa l wb r t = (P : Table) → Pictured P t → given (direct_test l.code l.v l.w r.code r.v r.w) (decide_all (kids_in wa l) (kids_in wb r) P) ≡ fails

@@ -13,14 +13,14 @@ use rule::nodes::{Nodes, Rule};
 use trial::pairs::{PLACES, clear};
 
 /// Which of two runs of words is no rule, and why.
-#[derive(Clone, Copy)]
+#[derive(Clone, Copy, Debug, PartialEq, Eq)]
 pub enum Unfit {
     First(Fault),
     Second(Fault),
 }
 
 /// Why two runs are not compared: one of them is no rule, or the pair table has fewer than 2,048 words.
-#[derive(Clone, Copy)]
+#[derive(Clone, Copy, Debug, PartialEq, Eq)]
 pub enum CompareFault {
     Unfit(Unfit),
     PairTable,
@@ -97,9 +97,9 @@ fn intake_both(first: &[u32], second: &[u32]) -> Result<(Nodes, Nodes), Unfit>
     Ok((a, b))
 }
 
-// Whether two rules are the same. Where they are, the pair table has the renaming: place l the partner of local l of the
-// first rule, place 1,024 + r that of local r of the second, 4294967295 for none; where they are not, the 2,048 places all
-// hold none. A refusal leaves the table as it is, and so does every answer what stands past the places.
+/// Whether two rules are the same. Where they are, the pair table has the renaming: place l the partner of local l of the
+/// first rule, place 1,024 + r that of local r of the second, 4294967295 for none; where they are not, the 2,048 places all
+/// hold none. A refusal leaves the table as it is, and so does every answer what stands past the places.
 pub fn compare(first: &[u32], second: &[u32], pairs: &mut [u32]) -> Result<bool, CompareFault>
     ensures { Compared first.now second.now pairs.old pairs.new result }
 {

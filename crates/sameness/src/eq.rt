@@ -3,12 +3,12 @@
 ghost use Rattle.std.specs.Prelude.{◌≡◌, ◌<◌, length};
 ghost use Rattle.sameness.specs.Deciding.{matched, Table};
 ghost use Rattle.sameness.specs.Sides.{BranchesWalked, SidesWalked, ChildrenWalked, PairsWalked, DirectFails};
-ghost use Rattle.sameness.specs.Walking.{Pictured, Not};
+ghost use Rattle.sameness.specs.Walking.{Pictured, Not, IsPlain};
 
 use crate::kind::{Branch, Side};
 use crate::words::{eq_words, is_reversed};
-use rule::codes::{BINARY, BINDING, BLOCK};
-use trial::guard::{Before, Trial};
+use rule::codes::{BINARY, BLOCK};
+use trial::guard::Trial;
 use trial::pairs::{PLACES, paired, record, unpaired};
 
 // A used local of the first rule and one of the second: partners, or both without one and the same.
@@ -24,9 +24,9 @@ fn eq_locals(t: &[u32; PLACES], x: u32, y: u32) -> bool
     paired(t, x, y)
 }
 
-// Kept: each function of the cycle says for which codes it is. Of three facts eq_expr, eq_pat and eq_qpath say two each, and
-// no two of them the same two. The table stands beside the two sides: it is lent to be changed, and of a struct that held it
-// each function would have to say that it still holds the same one.
+// Kept: of the three facts of IsPlain, eq_expr, eq_pat and eq_qpath say two each, and no two of them the same two. The table
+// stands beside the two sides: it is lent to be changed, and of a struct that held it each function would have to say that
+// it still holds the same one.
 
 // Two branches, as what they come to.
 #[cycle(eq_nodes)]
@@ -41,7 +41,8 @@ pub(crate) fn eq_node(t: &mut [u32; PLACES], x: Branch, y: Branch) -> bool
         branch: y,
         node: y.reduce_exprkind(),
     };
-    // Kept: the codes of a class of nodes stand together in the format, and only these have a function of their own.
+    // Kept: the codes of a class stand together in the format, and a class would be asked of a node's row, which is looked up
+    // in the table of rows: once for each pair of nodes that is compared. What the functions ask of a node is of its code too.
     match l.node.code {
         10..=36 => eq_expr(t, l, r),
         40..=50 => eq_pat(t, l, r),
@@ -75,12 +76,7 @@ fn eq_binary(t: &mut [u32; PLACES], l: Side, r: Side) -> bool
         return eq_reversed(t, l, r);
     }
     {
-        let before = Before::of(t);
-        let mut trial = Trial {
-            table: t,
-            before,
-            kept: false,
-        };
+        let mut trial = Trial::of(t);
         if over_words(trial.table, l, r) {
             trial.kept = true;
             return true;
@@ -129,14 +125,16 @@ fn eq_pat(t: &mut [u32; PLACES], l: Side, r: Side) -> bool
     if !over(t, l, r) {
         return false;
     }
-    if l.node.code != BINDING {
-        return true;
+    match (l.node.declared(), r.node.declared()) {
+        (Some(x), Some(y)) => {
+            if !unpaired(t, x, y) {
+                return false;
+            }
+            record(t, x, y);
+            true
+        }
+        _ => true,
     }
-    if !unpaired(t, l.node.v, r.node.v) {
-        return false;
-    }
-    record(t, l.node.v, r.node.v);
-    true
 }
 
 // Paths. A path to a local goes by its partner.
@@ -162,9 +160,7 @@ fn eq_qpath(t: &mut [u32; PLACES], l: Side, r: Side) -> bool
 // Kept: a function of its own, since expressions, blocks, statements and patterns are compared by four that call each other.
 #[cycle(eq_nodes)]
 fn eq_block(t: &mut [u32; PLACES], l: Side, r: Side) -> bool
-    requires not_binary { Not 14 l.node }
-    requires not_binding { Not 41 l.node }
-    requires not_path { Not 70 l.node }
+    requires { IsPlain l.node }
     ensures { SidesWalked l.entry r.entry t.old t.new result }
 {
     eq_part(t, l, r)
@@ -174,9 +170,7 @@ fn eq_block(t: &mut [u32; PLACES], l: Side, r: Side) -> bool
 // Kept: a function of its own, since expressions, blocks, statements and patterns are compared by four that call each other.
 #[cycle(eq_nodes)]
 fn eq_stmt(t: &mut [u32; PLACES], l: Side, r: Side) -> bool
-    requires not_binary { Not 14 l.node }
-    requires not_binding { Not 41 l.node }
-    requires not_path { Not 70 l.node }
+    requires { IsPlain l.node }
     ensures { SidesWalked l.entry r.entry t.old t.new result }
 {
     eq_part(t, l, r)
@@ -186,9 +180,7 @@ fn eq_stmt(t: &mut [u32; PLACES], l: Side, r: Side) -> bool
 // arms, literals, what is absent, and what the functions above leave.
 #[cycle(eq_nodes)]
 fn eq_part(t: &mut [u32; PLACES], l: Side, r: Side) -> bool
-    requires not_binary { Not 14 l.node }
-    requires not_binding { Not 41 l.node }
-    requires not_path { Not 70 l.node }
+    requires { IsPlain l.node }
     ensures { SidesWalked l.entry r.entry t.old t.new result }
 {
     eq_words(l.node, r.node) && over(t, l, r)

@@ -3,9 +3,9 @@ ghost use Rattle.std.specs.Prelude.{◌≡◌, ◌<◌, ◌&&◌, length, ◌==�
 ghost use Rattle.rule.specs.Intake.{Treelike};
 ghost use Rattle.rule.specs.Nodes.{Spelt};
 ghost use Rattle.rule.specs.Trees.{tree_at};
-ghost use Rattle.sameness.specs.Blocks.{Comes, Made, one};
+ghost use Rattle.sameness.specs.Blocks.{Comes, Made};
 ghost use Rattle.sameness.specs.Reduction.{reduce};
-ghost use Rattle.sameness.specs.Sameness.{pair};
+ghost use Rattle.sameness.specs.Sameness.{one, pair};
 ghost use Rattle.sameness.specs.Walking.{Held, Low, tree_in};
 
 use rule::codes::{ABSENT, BLOCK_EXPR, EXPR_STMT, RETURN, SEMI_STMT, TUPLE};
@@ -65,15 +65,10 @@ impl<'w, 'p> Branch<'w, 'p> {
         if is_absent(tail) {
             return Some(Node {
                 code: TUPLE,
-                v: 0,
-                w: 0,
-                kids: &[],
+                ..Node::default()
             });
         }
-        if tail.code == RETURN {
-            return Some(tail);
-        }
-        None
+        (tail.code == RETURN).then_some(tail)
     }
 
     // What a plain block comes to that has this statement and the tail: the return that is all it holds.
@@ -94,10 +89,7 @@ impl<'w, 'p> Branch<'w, 'p> {
             return None;
         }
         let inner = stmt.child(0).node();
-        if inner.code == RETURN {
-            return Some(inner);
-        }
-        None
+        (inner.code == RETURN).then_some(inner)
     }
 
     // What a block comes to, if not itself.

@@ -24,7 +24,7 @@ impl<'a> Reduced<'a> {
     }
 }
 
-// A run of words as a rule with its nodes reduced, or the first ground of 1 to 6 on which it is refused.
+/// A run of words as a rule with its nodes reduced, or the first ground of 1 to 6 on which it is refused.
 pub fn reduce_rule<'a>(words: &'a [u32]) -> Result<Reduced<'a>, Fault>
     ensures ok { IfOk result (λ d. RuleReduced words.now d) }
     ensures err { IfErr result (λ f. Unsound words.now f) }
@@ -35,6 +35,7 @@ pub fn reduce_rule<'a>(words: &'a [u32]) -> Result<Reduced<'a>, Fault>
         at: nodes.places(),
     };
     let mut kinds = ArrayVec::new();
+    // Kept: a branch is a node's number and all that is below it, and the loop reads no node itself.
     for number in 0..rule.at.len() {
         kinds.push(Branch { rule, number }.reduce_exprkind());
     }

@@ -8,7 +8,7 @@ use rule::codes::{BINDING, BLOCK_EXPR, REF_TY, STRUCT_PAT, is_barred};
 use rule::comparison::Comparison;
 use rule::nodes::Node;
 
-// v, but 0 where it is not compared.
+/// v, but 0 where it is not compared.
 #[tactic(auto, unfolding(crate::specs::Sameness::bare_v))]
 pub fn bare_v(node: Node) -> u32
     ensures { result ≡ bare_v node.entry.code node.entry.v }
@@ -19,7 +19,7 @@ pub fn bare_v(node: Node) -> u32
     }
 }
 
-// w, but 0 where it is the number of a local.
+/// w, but 0 where it is the number of a local.
 #[tactic(auto, unfolding(crate::specs::Sameness::bare_w))]
 pub fn bare_w(node: Node) -> u32
     ensures { result ≡ bare_w node.entry.code node.entry.v node.entry.w }
@@ -36,6 +36,8 @@ pub(crate) fn eq_words(l: Node, r: Node) -> bool
 }
 
 // One comparison is the other with its operands exchanged.
+// Kept: a function of its own, though it is one test and has one caller. It has the name that NOTICE gives for it, so that
+// who reads the original beside it finds what stands for that function's table of operators.
 #[tactic(auto, unfolding(crate::specs::Deciding::reverses_test))]
 fn swap_binop(l: Comparison, r: Comparison) -> bool
     ensures { result ≡ reverses_test (comparison_number l) (comparison_number r) }

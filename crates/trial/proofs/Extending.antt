@@ -1,8 +1,7 @@
 -- A table that has every pair of another, and maybe more.
-use Rattle.std.proofs.Common.{◌≡◌, ℕ, ◌+◌, ◌<◌, true, false, ◌&&◌, eqb, ◌≢◌, List, length, get_or, set, sym, refl, ap, ◌∙◌, arith}
-use Rattle.std.proofs.lemmas.List.{length-set}
+use Rattle.std.proofs.Common.{◌≡◌, ℕ, ◌+◌, ◌<◌, true, false, ◌&&◌, eqb, ◌≢◌, List, length, get_or, sym, refl, ap, ◌∙◌, arith}
 use Rattle.std.proofs.lemmas.Bool.{and_parts, true≢false}
-use Rattle.trial.proofs.Recording.{placed-within, recorded-length, recorded-other, set-pair-other, unpaired-parts}
+use Rattle.trial.proofs.Recording.{placed-within, recorded-length, recorded-other, unpaired-parts}
 use Rattle.trial.specs.Table.{vacant, placed, unpaired, recorded}
 use Rattle.trial.specs.Trials.{Extends}
 
@@ -38,8 +37,3 @@ unpaired-extends t l r h =
     let within = placed-within t l r places.0 in
     let none = unpaired-parts t l r h in
     recorded-extends t l r within.0 within.1 none.0 none.1
-
-pub set-extends :
-    (t : List ℕ) (l r : ℕ) → l < 1024 → r < 1024 → vacant t l ≡ true → vacant t (1024 + r) ≡ true → Extends t (set (set t l r) (1024 + r) l)
-set-extends t l r hl hr vl vr =
-    change-extends t (set (set t l r) (1024 + r) l) l r hl hr vl vr (length-set (set t l r) (1024 + r) l ∙ length-set t l r) (set-pair-other t l r)

@@ -1,4 +1,3 @@
-pub mod Clearing
 pub mod Extending
 pub mod Marking
 pub mod Recording

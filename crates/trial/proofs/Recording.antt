@@ -1,7 +1,7 @@
 -- Where the places of a pair are, and the table with a pair recorded.
 use Rattle.std.proofs.Common.{◌≡◌, ℕ, ◌+◌, ◌<◌, ◌≤◌, Bool, true, ◌&&◌, eqb, ltb, ◌≢◌, List, length, get_or, set, refl, ap, ◌∙◌, arith}
-use Rattle.std.proofs.lemmas.List.{get_or-set_same, get_or-set_other, length-set}
-use Rattle.std.proofs.lemmas.Bool.{and_parts, and_from, ltb-true, lt-ltb, eq-eqb, eqb-true, cond-true, cond_both}
+use Rattle.std.proofs.lemmas.List.{get_or-set_other, length-set}
+use Rattle.std.proofs.lemmas.Bool.{and_parts, and_from, ltb-true, lt-ltb, cond-true, cond_both}
 use Rattle.trial.specs.Table.{vacant, placed, paired, unpaired, recorded}
 
 -- the places of a pair, where the table has them
@@ -34,13 +34,6 @@ unfolding recorded
 recorded-in t l r hl hr ht = cond-true (placed t l r) (set (set t l r) (1024 + r) l) t (placed-in t l r hl hr ht)
 
 -- what the tests tell
-pub paired-parts : (t : List ℕ) (l r : ℕ) → paired t l r ≡ true → (get_or t l 0 ≡ r) × (get_or t (1024 + r) 0 ≡ l)
-unfolding paired
-paired-parts t l r h =
-    let a = and_parts (placed t l r) (eqb (get_or t l 0) r && eqb (get_or t (1024 + r) 0) l) h in
-    let b = and_parts (eqb (get_or t l 0) r) (eqb (get_or t (1024 + r) 0) l) a.1 in
-    (eqb-true (get_or t l 0) r b.0, eqb-true (get_or t (1024 + r) 0) l b.1)
-
 pub unpaired-parts : (t : List ℕ) (l r : ℕ) → unpaired t l r ≡ true → (vacant t l ≡ true) × (vacant t (1024 + r) ≡ true)
 unfolding unpaired
 unpaired-parts t l r h =
@@ -54,17 +47,6 @@ recorded-length t l r =
     cond_both (placed t l r) (set (set t l r) (1024 + r) l) t (λ s. length s ≡ length t)
     (λ h. length-set (set t l r) (1024 + r) l ∙ length-set t l r) (λ h. refl)
 
-pub recorded-first : (t : List ℕ) (l r : ℕ) → l < 1024 → r < 1024 → 2048 ≤ length t → get_or (recorded t l r) l 0 ≡ r
-recorded-first t l r hl hr ht =
-    let apart : l ≢ 1024 + r = omega arith in
-    let within : l < length t = omega arith in
-    ap (λ (s : List ℕ). get_or s l 0) (recorded-in t l r hl hr ht) ∙ get_or-set_other (set t l r) (1024 + r) l l 0 apart ∙ get_or-set_same t l r 0 within
-
-pub recorded-second : (t : List ℕ) (l r : ℕ) → l < 1024 → r < 1024 → 2048 ≤ length t → get_or (recorded t l r) (1024 + r) 0 ≡ l
-recorded-second t l r hl hr ht =
-    let within : 1024 + r < length (set t l r) = omega (arith, length-set t l r) in
-    ap (λ (s : List ℕ). get_or s (1024 + r) 0) (recorded-in t l r hl hr ht) ∙ get_or-set_same (set t l r) (1024 + r) l 0 within
-
 -- a pair leaves every other place as it is
 pub set-pair-other : (t : List ℕ) (l r k : ℕ) → k ≢ l → k ≢ 1024 + r → get_or (set (set t l r) (1024 + r) l) k 0 ≡ get_or t k 0
 set-pair-other t l r k nl nr = get_or-set_other (set t l r) (1024 + r) k l 0 nr ∙ get_or-set_other t l k r 0 nl
@@ -73,11 +55,3 @@ pub recorded-other : (t : List ℕ) (l r k : ℕ) → k ≢ l → k ≢ 1024 + r
 unfolding recorded
 recorded-other t l r k nl nr =
     cond_both (placed t l r) (set (set t l r) (1024 + r) l) t (λ s. get_or s k 0 ≡ get_or t k 0) (λ h. set-pair-other t l r k nl nr) (λ h. refl)
-
-pub recorded-paired : (t : List ℕ) (l r : ℕ) → l < 1024 → r < 1024 → 2048 ≤ length t → paired (recorded t l r) l r ≡ true
-recorded-paired t l r hl hr ht =
-    let s : List ℕ = recorded t l r in
-    let hs : 2048 ≤ length s = omega (arith, recorded-length t l r) in
-    let first : eqb (get_or s l 0) r ≡ true = eq-eqb (get_or s l 0) r (recorded-first t l r hl hr ht) in
-    let second : eqb (get_or s (1024 + r) 0) l ≡ true = eq-eqb (get_or s (1024 + r) 0) l (recorded-second t l r hl hr ht) in
-    paired-in s l r hl hr hs ∙ and_from (eqb (get_or s l 0) r) (eqb (get_or s (1024 + r) 0) l) first second

@@ -1,5 +1,5 @@
 -- What a trial leaves in the table.
-use Rattle.std.proofs.Common.{◌≡◌, ℕ, ◌+◌, ◌-◌, ◌<◌, ◌≤◌, min, Bool, true, false, not, ◌≢◌, List, ◌++◌, length, get_or, set, take, drop, sym, ap, ◌∙◌, subst, ⊎_elim, arith}
+use Rattle.std.proofs.Common.{◌≡◌, ℕ, ◌+◌, ◌-◌, ◌<◌, ◌≤◌, min, Bool, true, false, not, ◌≢◌, List, ◌++◌, length, get_or, set, take, drop, sym, ap, ◌∙◌, ⊎_elim, arith}
 use Rattle.std.proofs.lemmas.List.{get_or-set_same, get_or-set_other, get_or-take, get_or-drop, get_or_append_left, get_or-append_right, length-take, length-drop, length-append, ext_get_or}
 use Rattle.std.proofs.lemmas.Bool.{cases_Bool, cases_eq, cases_lt, eqb-true, true≢false}
 use Rattle.trial.specs.Marks.{held, Marked}
@@ -17,14 +17,6 @@ put_back bits t t' s m x b = ext_get_or 0 s t (b.long ∙ x.long) (λ k h. ⊎_e
         let held-is = m.marks k l old in
         ⊎_elim (λ (v : vacant t k ≡ true). b.vacated k l new (held-is ∙ ap not v) ∙ sym (eqb-true (get_or t k 0) 4294967295 v))
         (λ (v : vacant t k ≡ false). b.stays k l (held-is ∙ ap not v) ∙ x.has k v) (cases_Bool (vacant t k))
-
--- the same, where the bits and the table at the end of the trial are known by equations
-pub put-back-by :
-    (bits bits' t t' t'' s : List ℕ) → bits' ≡ bits → t'' ≡ t' → Marked bits t → Extends t t' → Restored bits' t'' s → s ≡ t
-put-back-by bits bits' t t' t'' s eb et m x b =
-    let P : List ℕ → Type 0 = λ a. Restored a t'' s in
-    let Q : List ℕ → Type 0 = λ a. Restored bits a s in
-    put_back bits t t' s m x (subst Q et (subst P eb b))
 
 -- the loop of restore: up to place i the table s is restored, and past that it is t; f tells what was held
 abbrev pub RestoredTo : (ℕ → Bool) → List ℕ → List ℕ → ℕ → Type 0

@@ -5,7 +5,7 @@ ghost use Rattle.std.specs.Prelude.{◌≡◌, true, false};
 
 use crate::pairs::{NONE, PLACES, places};
 
-// Which places of a table held a partner: bit i % 64 of word i / 64 is place i.
+/// Which places of a table held a partner: bit i % 64 of word i / 64 is place i.
 #[derive(Clone, Copy, Debug, PartialEq, Eq)]
 pub struct Before {
     // Kept: the guard holds by value what stood before, with no heap, and a bit for each place is least.
@@ -13,7 +13,7 @@ pub struct Before {
 }
 
 impl Before {
-    // The places of the table that hold a partner.
+    /// The places of the table that hold a partner.
     pub fn of(table: &[u32]) -> Before
         ensures { Marked result.bits table.now }
     {
@@ -46,13 +46,30 @@ impl Before {
     }
 }
 
-// Holds the table while a reading is tried. It is made by a literal, with `Before::of` the same table and `kept: false`.
-// On every way out of its scope the table is restored, unless `kept` was set.
+/// Holds the table while a reading is tried. On every way out of its scope the table is restored, unless `kept` was set.
 pub struct Trial<'a> {
     pub table: &'a mut [u32],
     pub before: Before,
-    // Kept: the guard stays a plain record, whose drop restores the table unless its holder has set this.
+    // Kept: a flag. By the project's form the guard is a plain record, whose drop restores the table unless its holder has
+    // set this.
     pub kept: bool,
+}
+
+impl<'a> Trial<'a> {
+    /// A trial over a table, which is not kept yet.
+    pub fn of(table: &'a mut [u32]) -> Trial<'a>
+        ensures same_reference { result.table.ghost_name ≡ table.entry.ghost_name }
+        ensures table { result.table.now ≡ table.old }
+        ensures before { Marked result.before.bits table.old }
+        ensures kept { result.kept ≡ false }
+    {
+        let before = Before::of(table);
+        Trial {
+            table,
+            before,
+            kept: false,
+        }
+    }
 }
 
 impl Drop for Trial<'_> {

@@ -2,14 +2,14 @@
 ghost use Rattle.std.specs.Prelude.{◌≡◌, min, length};
 ghost use Rattle.trial.specs.Table.{placed, holds, paired, unpaired, recorded, Cleared};
 
-// Stands at a place that holds no partner.
+/// Stands at a place that holds no partner.
 // Kept: the pair table is the caller's words, and the format has this word for no partner.
 pub const NONE: u32 = 4294967295;
 
-// How many locals a rule can have.
+/// How many locals a rule can have.
 pub const LOCALS: usize = 1024;
 
-// How many places a table has for the locals of two rules.
+/// How many places a table has for the locals of two rules.
 pub const PLACES: usize = 2048;
 
 // How many of the places are within the table.
@@ -19,7 +19,8 @@ pub(crate) fn places(table: &[u32]) -> usize
     table.len().min(PLACES)
 }
 
-// Kept: the table and two locals are no struct, since the functions of it are public and the table is lent to be changed.
+// Kept: the table and two locals are no struct. These calls take the caller's words, of any length, and the table is lent to
+// be changed.
 
 // Both are numbers of locals, and the table has their places.
 fn has_places(table: &[u32], l: u32, r: u32) -> bool
@@ -38,7 +39,7 @@ fn holds(table: &[u32], l: u32, r: u32, x: u32, y: u32) -> bool
     table[l as usize] == x && table[LOCALS + r as usize] == y
 }
 
-// Local l of the first rule and local r of the second are each other's partner. False where the table lacks a place of theirs.
+/// Local l of the first rule and local r of the second are each other's partner. False where the table lacks a place of theirs.
 #[tactic(auto, unfolding(crate::specs::Table::paired))]
 pub fn paired(table: &[u32], l: u32, r: u32) -> bool
     ensures { result ≡ paired table.now l r }
@@ -46,7 +47,7 @@ pub fn paired(table: &[u32], l: u32, r: u32) -> bool
     holds(table, l, r, r, l)
 }
 
-// Neither local l of the first rule nor local r of the second has a partner. False where the table lacks a place of theirs.
+/// Neither local l of the first rule nor local r of the second has a partner. False where the table lacks a place of theirs.
 #[tactic(auto, unfolding(crate::specs::Table::unpaired))]
 pub fn unpaired(table: &[u32], l: u32, r: u32) -> bool
     ensures { result ≡ unpaired table.now l r }
@@ -54,7 +55,7 @@ pub fn unpaired(table: &[u32], l: u32, r: u32) -> bool
     holds(table, l, r, NONE, NONE)
 }
 
-// Makes local l of the first rule and local r of the second partners. Does nothing where the table lacks a place of theirs.
+/// Makes local l of the first rule and local r of the second partners. Does nothing where the table lacks a place of theirs.
 pub fn record(table: &mut [u32], l: u32, r: u32)
     ensures { table.new ≡ recorded table.old l r }
 {
@@ -64,7 +65,7 @@ pub fn record(table: &mut [u32], l: u32, r: u32)
     }
 }
 
-// Takes every partner out, and leaves what stands past the places.
+/// Takes every partner out, and leaves what stands past the places.
 pub fn clear(table: &mut [u32])
     ensures { Cleared table.old table.new }
 {

@@ -1,4 +1,4 @@
-use crate::guard::{Before, Trial};
+use crate::guard::Trial;
 use crate::pairs::{NONE, clear, paired, record, unpaired};
 
 #[test]
@@ -6,12 +6,7 @@ fn failed_trial_puts_the_table_back(rt: HostRuntime) {
     let mut table = [NONE; 2048];
     record(&mut table, 3, 7);
     {
-        let before = Before::of(&table);
-        let trial = Trial {
-            table: &mut table,
-            before,
-            kept: false,
-        };
+        let trial = Trial::of(&mut table);
         record(trial.table, 4, 8);
         record(trial.table, 1023, 0);
     }
@@ -25,12 +20,7 @@ fn kept_trial_leaves_its_pairs(rt: HostRuntime) {
     let mut table = [NONE; 2048];
     record(&mut table, 3, 7);
     {
-        let before = Before::of(&table);
-        let mut trial = Trial {
-            table: &mut table,
-            before,
-            kept: false,
-        };
+        let mut trial = Trial::of(&mut table);
         record(trial.table, 4, 8);
         trial.kept = true;
     }
@@ -43,12 +33,7 @@ fn longer_table_keeps_its_tail(rt: HostRuntime) {
     let mut table = [5; 2050];
     clear(&mut table);
     {
-        let before = Before::of(&table);
-        let trial = Trial {
-            table: &mut table,
-            before,
-            kept: false,
-        };
+        let trial = Trial::of(&mut table);
         record(trial.table, 1, 1023);
     }
     assert!(rt; unpaired(&table, 1, 1023));

@@ -3,6 +3,6 @@ use Rattle.feed.proofs.Roots.{NotedSoFar}
 use Rattle.feed.proofs.hash.hash_root.Given as goal
 
 -- the hashes are noted of the nodes so far
-abbrev pub invariant-loop-i : goal.invariant-loop-i
-invariant-loop-i g l = let m = g.H.Hasher in
-    NotedSoFar (hash_by m) l.words l.nodes l.noted l.i
+abbrev pub invariant-loop-node : goal.invariant-loop-node
+invariant-loop-node g l = let m = g.H.Hasher in
+    NotedSoFar (hash_by m) l.words l.nodes l.noted l.node-index

@@ -2,15 +2,15 @@ use Rattle.std.proofs.Common.{rules, ◌≡◌, ℕ, ◌<◌, true, min, ◌⊎�
 use Rattle.std.proofs.lemmas.Slice.Zip.{zip_turn, zip_end}
 use Rattle.rule.specs.Trees.{tree_at}
 use Rattle.sameness.proofs.Overs.{going_more, going-fails, going-all, over-unequal, first_holds, not-exchanged, few-operands, exchanged, both-same}
-use Rattle.sameness.specs.Walking.{Low, KindsWalked}
-use Rattle.sameness.proofs.Asking.{no-local, second-local, binding-low, local-low, nodes-named}
+use Rattle.sameness.specs.Walking.{Low, KindsWalked, KidsWalked}
+use Rattle.sameness.proofs.Asking.{no-binding, second-binding, no-local, second-local, binding-low, local-low, nodes-named}
 use Rattle.sameness.proofs.Walks.{kinds-unequal, kinds-other, kinds-fail, kinds-plain, kinds-by, kinds-bound, kinds-taken, kinds-local}
 use Rattle.sameness.proofs.eq.+eq_nodes.Goals as goal
 use Rattle.sameness.proofs.eq.+eq_nodes.Goals.{over-In-Some, eq_reversed-then-l-ne2-via-then-l-ne2, eq_reversed-then-l-ne2-via-else-l-ne2+then-r-ne2}
 
 pub eq_part-returns-then-eq_words : goal.eq_part-returns-then-eq_words
 eq_part-returns-then-eq_words t c =
-    kinds-by _ c.args.l.node _ c.args.r.node _ _ _ c.requires.not_binary c.requires.not_binding c.requires.not_path (sym c.if-eq_words.ensures) c.over.ensures
+    kinds-by _ c.args.l.node _ c.args.r.node _ _ _ c.requires (sym c.if-eq_words.ensures) c.over.ensures
 
 pub eq_part-returns-else-eq_words : goal.eq_part-returns-else-eq_words
 eq_part-returns-else-eq_words t c = kinds-other _ c.args.l.node _ c.args.r.node _ _ c.requires.not_binary c.eq_words.ensures c.if-eq_words.false
@@ -21,22 +21,29 @@ eq_pat-returns-then-not-eq_words t c = kinds-unequal _ c.args.l.node _ c.args.r.
 pub eq_pat-returns-then-not-over : goal.eq_pat-returns-then-not-over
 eq_pat-returns-then-not-over t c = kinds-fail _ c.args.l.node _ c.args.r.node _ _ c.requires.not_binary (sym c.if-not-eq_words.ensures) c.if-not-over.ensures
 
-pub eq_pat-returns-then-l-ne-BINDING : goal.eq_pat-returns-then-l-ne-BINDING
-eq_pat-returns-then-l-ne-BINDING t c =
-    kinds-plain _ c.args.l.node _ c.args.r.node _ _ c.requires.not_binary c.if-l-ne-BINDING.true (λ e. c.requires.not_path e.0) (sym c.if-not-eq_words.ensures) c.if-not-over.ensures
+pub eq_pat-returns-in_default : goal.eq_pat-returns-in_default
+eq_pat-returns-in_default t c =
+    let d = sym c.if-not-eq_words.ensures in
+    kinds-plain _ c.args.l.node _ c.args.r.node _ _ c.requires.not_binary (second-binding c.args.l.node c.args.r.node d (sym c.declared-2.ensures ∙ c.in_default.is-1)) (λ e. c.requires.not_path e.0) d c.if-not-over.ensures
+
+pub eq_pat-returns-in_default-2 : goal.eq_pat-returns-in_default-2
+eq_pat-returns-in_default-2 t c =
+    kinds-plain _ c.args.l.node _ c.args.r.node _ _ c.requires.not_binary (no-binding c.args.l.node (sym c.declared.ensures ∙ c.in_default.is-0)) (λ e. c.requires.not_path e.0) (sym c.if-not-eq_words.ensures) c.if-not-over.ensures
 
 pub eq_pat-returns-then-not-unpaired : goal.eq_pat-returns-then-not-unpaired
 eq_pat-returns-then-not-unpaired t c =
-    let d = sym c.if-not-eq_words.ensures in
-    let k = binding-low c.args.l.node c.args.r.node d _ _ _ _ c.args.l.held c.args.r.held c.if-l-ne-BINDING.false in
-    kinds-taken _ c.args.l.node _ c.args.r.node _ _ c.if-l-ne-BINDING.false d c.over.array_long k.0 k.1 (sym c.if-not-unpaired.ensures) c.if-not-over.ensures
+    let u = sym c.declared.ensures ∙ c.in-Some-Some.is-0 in
+    let v = sym c.declared-2.ensures ∙ c.in-Some-Some.is-1 in
+    kinds-taken _ c.args.l.node _ c.args.r.node _ _ _ _ u v (sym c.if-not-eq_words.ensures) c.over.array_long (binding-low _ _ _ _ c.args.l.held u) (binding-low _ _ _ _ c.args.r.held v)
+    c.if-not-over.ensures (sym c.if-not-unpaired.ensures)
 
-pub eq_pat-returns : goal.eq_pat-returns
-eq_pat-returns t c =
-    let d = sym c.if-not-eq_words.ensures in
-    let k = binding-low c.args.l.node c.args.r.node d _ _ _ _ c.args.l.held c.args.r.held c.if-l-ne-BINDING.false in
+pub eq_pat-returns-else-not-unpaired : goal.eq_pat-returns-else-not-unpaired
+eq_pat-returns-else-not-unpaired t c =
+    let u = sym c.declared.ensures ∙ c.in-Some-Some.is-0 in
+    let v = sym c.declared-2.ensures ∙ c.in-Some-Some.is-1 in
     subst (λ z. KindsWalked c.args.l.branch.rule.words.now c.args.l.node c.args.r.branch.rule.words.now c.args.r.node c.args.t.now z true) (sym c.record.ensures)
-    (kinds-bound _ c.args.l.node _ c.args.r.node _ _ c.if-l-ne-BINDING.false d c.over.array_long k.0 k.1 (sym c.if-not-unpaired.ensures) c.if-not-over.ensures)
+    (kinds-bound _ c.args.l.node _ c.args.r.node _ _ _ _ u v (sym c.if-not-eq_words.ensures) c.over.array_long (binding-low _ _ _ _ c.args.l.held u) (binding-low _ _ _ _ c.args.r.held v)
+    c.if-not-over.ensures (sym c.if-not-unpaired.ensures))
 
 pub eq_qpath-returns-then-not-eq_words : goal.eq_qpath-returns-then-not-eq_words
 eq_qpath-returns-then-not-eq_words t c = kinds-unequal _ c.args.l.node _ c.args.r.node _ c.requires.not_binary (sym c.if-not-eq_words.ensures)
@@ -67,8 +74,12 @@ eq_qpath-returns-in_default-2 t c =
 
 pub eq_binary-returns-then-over_words : goal.eq_binary-returns-then-over_words
 eq_binary-returns-then-over_words t c =
-    subst (λ z. KindsWalked c.args.l.branch.rule.words.now c.args.l.node c.args.r.branch.rule.words.now c.args.r.node c.args.t.now z true) (sym (c.drop-trial.ensures.keeps refl))
-    (first_holds _ c.args.l.node _ c.args.r.node _ _ c.requires.binary (sym c.if-not-eq_words.ensures) c.if-over_words.ensures)
+    let wl = c.args.l.branch.rule.words.now in
+    let wr = c.args.r.branch.rule.words.now in
+    let k : KidsWalked wl c.args.l.node wr c.args.r.node c.args.t.now c.over_words.new.words true =
+    subst (λ z. KidsWalked wl c.args.l.node wr c.args.r.node z c.over_words.new.words true) c.of-trial.ensures.table c.if-over_words.ensures in
+    subst (λ z. KindsWalked wl c.args.l.node wr c.args.r.node c.args.t.now z true) (sym (c.drop-trial.ensures.keeps refl))
+    (first_holds _ c.args.l.node _ c.args.r.node _ _ c.requires.binary (sym c.if-not-eq_words.ensures) k)
 
 pub eq_reversed-returns-then-not-is_reversed : goal.eq_reversed-returns-then-not-is_reversed
 eq_reversed-returns-then-not-is_reversed t c = not-exchanged _ c.args.l.node _ c.args.r.node _ c.requires.binary (sym c.if-not-is_reversed.ensures) c.requires.direct_fails

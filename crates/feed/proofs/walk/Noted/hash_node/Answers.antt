@@ -10,11 +10,11 @@ loop-frame-init g c =
     let r = c.requires in
     walks-one _ _ r.reduced r.within r.noted c.fresh-hasher.ensures c.feed_at.ensures (ap reverse c.new-stack.ensures) (pushed _ _ c.push.ensures.items)
 
-pub feed_at-requires-in-Some-nth-clause-within :
-    goal.feed_at-requires-in-Some-nth-clause-within
-feed_at-requires-in-Some-nth-clause-within g c =
+pub feed_at-requires-in-Some-nth : goal.feed_at-requires-in-Some-nth
+feed_at-requires-in-Some-nth g c =
     let r = c.requires in
-    omega (arith, child-deep _ _ r.reduced r.within r.noted c.loop-frame.invariant (pushed _ _ c.in-Some.ensures.items) (walked-next _ _ c.of.ensures c.in-Some-nth.ensures))
+    let d = child-deep _ _ r.reduced r.within r.noted c.loop-frame.invariant (pushed _ _ c.in-Some.ensures.items) (walked-next _ _ c.of.ensures c.in-Some-nth.ensures) in
+    record { within = omega (arith, d); noted = omega (arith, d) }
 
 pub overflow_add-frame : goal.overflow_add-frame
 overflow_add-frame g c =

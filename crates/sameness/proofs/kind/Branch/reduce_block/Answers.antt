@@ -1,8 +1,8 @@
 use Rattle.std.proofs.Common.{◌≡◌, ◌<◌, get_or, sym, refl, ap, ◌∙◌, subst, arith}
 use Rattle.rule.specs.Trees.{node, tree_at}
-use Rattle.sameness.specs.Blocks.{one, Made}
+use Rattle.sameness.specs.Blocks.{Made}
 use Rattle.sameness.specs.Reduction.{shape_of_block}
-use Rattle.sameness.specs.Sameness.{pair}
+use Rattle.sameness.specs.Sameness.{one, pair}
 use Rattle.sameness.proofs.Inside.{block_made}
 use Rattle.sameness.proofs.KindTrees.{kind-tree, kind-node, kind-held, kids-one, kids-two}
 use Rattle.sameness.proofs.BlockShapes.{plain-words, block_kept, block-body, body-kids}
