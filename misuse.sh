@@ -60,8 +60,7 @@ without_misuse() {
 misuse 'a write into the pair table while a trial holds it' trial borrow-e0506 <<'END'
 
 pub fn write_during_a_trial(table: &mut [u32; 2048]) {
-    let before = crate::guard::Before::of(table);
-    let mut trial = crate::guard::Trial { table: &mut *table, before, kept: false };
+    let mut trial = crate::guard::Trial::of(&mut *table);
     table[0] = 1; // misuse
     trial.kept = true;
 }

@@ -70,6 +70,7 @@ impl<'a> Noted<'a> {
             node: top as u16,
             done: 0,
         });
+        // Kept: by the project's form a loop with a stack, and no recursion; so a frame counts the children that are done.
         while let Some(frame) = stack.pop() {
             let node = self.nodes[frame.node as usize];
             if let Some(child) = Way::of(node).nth(node.kids, frame.done as usize) {

@@ -67,6 +67,7 @@ impl fmt::Display for Place {
     }
 }
 
+// Kept: the words for the faults of a catalogue stand here, since this is the one program that prints them.
 impl fmt::Display for Unplaced {
     fn fmt<W: fmt::Write>(&self, f: &mut fmt::Formatter<W>) -> fmt::Result {
         write!(f, "refused {}, ", self.number())?;
