@@ -8,7 +8,7 @@ ghost use Rattle.kinds.specs.Names.{meets_name};
 ghost use Rattle.kinds.specs.Numbers.{name_number};
 
 use crate::words::{Answer, Call};
-use catalogue::fault::Numbered;
+use catalogue::fault::{Fault, NotStanding, Numbered};
 use kinds::names::NameFault;
 use std::alloc::AllocError;
 
@@ -41,10 +41,10 @@ impl Model {
             return Ok(Answer::Refused(fault.number()));
         }
         if number >= self.slots {
-            return Ok(Answer::Refused(20));
+            return Ok(Answer::Refused(Fault::<NameFault>::NoSlot.number()));
         }
         if self.used().saturating_add(run.len()) > self.units {
-            return Ok(Answer::Refused(21));
+            return Ok(Answer::Refused(Fault::<NameFault>::NoUnits.number()));
         }
         self.runs.push(run)?;
         Ok(Answer::Entered(number, self.class(run)))
@@ -63,7 +63,7 @@ impl Model {
         ensures { CutAnswered self.old keep result self.new }
     {
         if keep > self.runs.len() {
-            return Answer::Refused(22);
+            return Answer::Refused(NotStanding.number());
         }
         self.runs.truncate(keep);
         Answer::Cut

@@ -14,6 +14,8 @@ use std::alloc::{AllocError, Global};
 use tables::line::Entry;
 
 // The record of a catalogue, what each rule's enter has answered, and how many classes the rules have.
+// Kept: the answers stand beside the caller's entries, which are only lent; pairs of both would hold a reference to each entry
+// that the caller has in this order.
 #[derive(Drop)]
 pub struct ClassedTable<H> {
     pub cat: Catalogue<H>,

@@ -12,9 +12,9 @@ use trial::pairs::{LOCALS, NONE, PLACES};
 #[cfg(test)]
 mod tests;
 
-// Kept: the four programs of cases begin alike, by reading all of the input, and go on with other readers and other answers.
-// One function for all would want a closure, of which it has to ask that it can be called, or a trait with a type for each
-// program: either is longer than the two lines that they share.
+// Kept: `comparisons`, `hashes` and `trials` begin alike, up to the function that answers the rules. One function for the
+// three would take a closure and ask of its callers that it can be called, and no public function asks anything of them; a
+// trait with a type for each program is longer than these lines.
 fn main(rt: HostRuntime) -> io::Result<()> {
     let mut bytes = Vec::new(rt.alloc());
     rt.stdin().read_to_end(&mut bytes)?;

@@ -10,7 +10,8 @@ const START: u64 = 0xcbf2_9ce4_8422_2325;
 const PRIME: u64 = 0x0100_0000_01b3;
 
 /// Hashes the eight bytes of each word, the lowest first.
-// Kept: a type of its own, as `Rotating` is. The two are of different kind, and share no more than that they hold a word.
+// Kept: a type of its own, as `Rotating` is. The two are of different kind, and share no more than that each holds a word
+// and ends with it.
 #[derive(Clone, Copy, Debug, PartialEq, Eq)]
 pub struct Fnv1a {
     state: u64,

@@ -19,9 +19,8 @@ use std::alloc::{AllocError, Global};
 use std::io;
 use std::io::Read;
 
-// Kept: the four programs of cases begin alike, by reading all of the input, and go on with other readers and other answers.
-// One function for all would want a closure, of which it has to ask that it can be called, or a trait with a type for each
-// program: either is longer than the two lines that they share.
+// Kept: the first two lines stand in three other programs too, which go on with another reader. A function that reads all of
+// the input would want a crate of its own for two lines.
 fn main(rt: HostRuntime) -> io::Result<()> {
     let mut bytes = Vec::new(rt.alloc());
     rt.stdin().read_to_end(&mut bytes)?;

@@ -16,7 +16,8 @@ pub fn classes<'a>(rt: &HostRuntime, asked: Hashed<'a>) -> Result<(), Trouble<'a
     under_hasher(asked.hasher, Entering { rt, entries })
 }
 
-// Kept: a job is a type, here and in hash.rt, since a closure cannot be generic over the hasher.
+// Kept: a job is a type, here, in hash.rt and in replay.rt, since a closure cannot be generic over the hasher. The first two
+// have the same fields, and each has its own `run` of one trait.
 struct Entering<'r> {
     rt: &'r HostRuntime,
     entries: &'r [Entry],

@@ -1,6 +1,6 @@
 // The codes of nodes that mean more than their rows say.
 // Kept: numbers with names and no enum. A node's code is a word that anyone may hand in, and the row table is what says
-// which of them are codes; an enum would be a second list of the seventy codes, and a test of each word against it.
+// which of them are codes; an enum would be a second list of the 77 codes, and a test of each word against it.
 ghost use Rattle.std.specs.Prelude.{◌≡◌};
 ghost use Rattle.rule.specs.Intake.{barred};
 

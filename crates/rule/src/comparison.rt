@@ -15,7 +15,8 @@ pub enum Comparison {
 
 impl Comparison {
     /// The comparison that a number stands for, if it stands for one.
-    // Kept: `of` and `number`, and no `TryFrom` and `From`: who asks wants an Option, and an error with nothing in it would only be taken off again.
+    // Kept: `of` and `number`, and no `TryFrom` and `From`: who asks wants an Option, and an error with nothing in it would only
+    // be taken off again; and a number is asked for by `number`, as that of a fault is.
     pub fn of(number: u32) -> Option<Comparison>
         ensures { result ≡ comparison_of number }
     {

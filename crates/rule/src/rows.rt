@@ -35,7 +35,7 @@ pub enum Place {
 }
 
 /// The first places of a row: four at most.
-// Kept: four fields with their count, and no array, since the borrow checker does not cover a static of structs that hold arrays of enums.
+// Kept: four fields, and their count in `Row`, and no array, since the borrow checker does not cover a static of structs that hold arrays of enums.
 #[derive(Clone, Copy)]
 pub struct Front {
     pub a: Option<Place>,
@@ -202,7 +202,8 @@ pub(crate) static ROWS: [Row; 83] = [
     Row { code: 116, class: Class::Lit, v: ANY, w: Span { low: 0, high: 2 }, front: NO_FRONT, count: 0, many: NO, last: NO }, // float
 ];
 
-// For each code the number of its first row; for one without a row any number.
+// For each code the number of its first row, or 80 for the last two codes, whose rows are 81 and 82; for one without a row
+// any number.
 // Kept: beside the rows, since the row table is constant by the project's form, and with this a row is found by three looks.
 // That it fits the rows is proved by one test over both.
 #[rattlefmt::skip]

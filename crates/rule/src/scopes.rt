@@ -21,14 +21,6 @@ pub(crate) enum Mark {
     UsableTo(u16),
 }
 
-impl Mark {
-    fn is_unmet(self) -> bool
-        ensures { result ≡ (end self == 0) }
-    {
-        matches!(self, Mark::Unmet)
-    }
-}
-
 // Where the innermost operand around a child ends: with the child, if it is one itself.
 fn operand_end(fork: bool, end: u16, until: u16) -> u16
     ensures { result ≡ end_of fork end until }
@@ -44,7 +36,7 @@ fn declare(local: u32, until: u16, marks: &mut [Mark; MOST_LOCALS]) -> Result<()
 {
     // Kept: read and then written by number, since of what `get_mut` lends a proof knows the length alone.
     match marks.get(local as usize) {
-        Some(mark) if mark.is_unmet() => {
+        Some(Mark::Unmet) => {
             marks[local as usize] = Mark::UsableTo(until - 1);
             Ok(())
         }

@@ -41,7 +41,8 @@ pub(crate) fn check_tree(rule: Rule) -> Result<ArrayVec<u16, MOST_NODES>, Fault>
     ensures ok { IfOk result (λ sizes. Treelike rule.entry.words.now × Sized rule.entry.words.now sizes.items × (length sizes.items ≡ length rule.entry.at.now)) }
     ensures err { IfErr result (λ f. (f ≡ Fault.NotATree) × (Treelike rule.entry.words.now → ⊥)) }
 {
-    // Kept: an array as long as the longest rule, since a child is marked by its number and this crate uses no heap.
+    // Kept: an array with a place for each node of the longest rule, since a child is marked by its number and this crate uses
+    // no heap.
     let mut seen = [false; MOST_NODES];
     let mut sizes = ArrayVec::new();
     for node in rule.nodes() {

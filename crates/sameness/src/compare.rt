@@ -109,6 +109,7 @@ pub fn compare(first: &[u32], second: &[u32], pairs: &mut [u32]) -> Result<bool,
 }
 
 /// The same over a table that is long enough.
+// Kept: beside `compare`, which tests its table behind the runs. What the two share is `intake_both` and `judge_rules`.
 pub fn compare_over(first: &[u32], second: &[u32], table: &mut [u32; PLACES]) -> Result<bool, Unfit>
     ensures { ComparedOver first.now second.now table.old table.new result }
 {

@@ -36,8 +36,8 @@ pub(crate) fn eq_words(l: Node, r: Node) -> bool
 }
 
 // One comparison is the other with its operands exchanged.
-// Kept: a function of its own, though it is one test and has one caller. It has the name that NOTICE gives for it, so that
-// who reads the original beside it finds what stands for that function's table of operators.
+// Kept: a function of its own, though it is one test and has one caller: its contract is the one place that says which two
+// operators are exchanged, without what else `is_reversed` asks. In its caller the test would be no plainer.
 #[tactic(auto, unfolding(crate::specs::Deciding::reverses_test))]
 fn swap_binop(l: Comparison, r: Comparison) -> bool
     ensures { result ≡ reverses_test (comparison_number l) (comparison_number r) }

@@ -42,7 +42,8 @@ fn read_lines(heap: Global, text: &str) -> Result<(Kind, Heading, Vec<Call<u32>>
 {
     let mut headed: Option<(Kind, Heading)> = None;
     let mut calls = Vec::new(heap);
-    // Kept: `str::lines` gives no last empty line, and leaves the return of a last line that no line feed ends.
+    // Kept: `str::lines` takes the return off each line but a last one that no line feed ends, so of two returns at the end
+    // of a line none would be left, and without `before_return` the last line would keep its one.
     for (i, row) in text.split('\n').enumerate() {
         let content = before_return(row);
         if is_skipped(content) {

@@ -40,7 +40,8 @@ pub fn read_table(heap: Global, text: &str) -> Result<Vec<Entry>, TableFault>
 {
     let mut entries = Vec::new(heap);
     let mut seen = BTreeMap::new(heap);
-    // Kept: `str::lines` gives no last empty line, and leaves the return of a last line that no line feed ends.
+    // Kept: `str::lines` takes the return off each line but a last one that no line feed ends, so of two returns at the end
+    // of a line none would be left, and without `before_return` the last line would keep its one.
     for (i, row) in text.split('\n').enumerate() {
         let line = Line {
             heap,

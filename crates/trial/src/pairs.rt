@@ -19,8 +19,8 @@ pub(crate) fn places(table: &[u32]) -> usize
     table.len().min(PLACES)
 }
 
-// Kept: the table and two locals are no struct. These calls take the caller's words, of any length, and the table is lent to
-// be changed.
+// Kept: the table and two locals are no struct. These calls take the caller's words, of any length, and `record` is lent them
+// to be changed.
 
 // Both are numbers of locals, and the table has their places.
 fn has_places(table: &[u32], l: u32, r: u32) -> bool
