@@ -12,3 +12,7 @@ spelling Fnv1a = codes "fnv1a"
 abbrev pub NamedAs : List ℕ → Result HasherName UnknownHasher → Type 0
 NamedAs bs (Ok n) = bs ≡ spelling n
 NamedAs bs (Err _) = (n : HasherName) → bs ≢ spelling n
+
+-- what is said of a text that names none
+abbrev pub no_name : List ℕ
+no_name = codes "no hasher has this name: it is rotating or fnv1a"

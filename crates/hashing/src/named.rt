@@ -1,5 +1,5 @@
 // The names of the hashers, as texts write them.
-ghost use Rattle.hashing.specs.Named.{spelling};
+ghost use Rattle.hashing.specs.Named.{no_name, spelling};
 ghost use Rattle.std.specs.Prelude.{Some};
 
 use std::error::Error;
@@ -46,6 +46,8 @@ impl fmt::Display for HasherName {
 }
 
 impl fmt::Display for UnknownHasher {
+    ghost output = { λ _. Some no_name };
+
     fn fmt<W: fmt::Write>(&self, f: &mut fmt::Formatter<W>) -> fmt::Result {
         f.write_str("no hasher has this name: it is rotating or fnv1a")
     }

@@ -8,9 +8,10 @@ use crate::hasher::Hasher;
 pub fn hash_words<H: Hasher>(words: &[u64]) -> u64
     ensures { result ≡ hash_by H.Hasher words.now }
 {
-    let fed = words.iter().fold(H::fresh(), |mut hasher, word| {
+    // Kept: one hasher, which is fed in place; a `fold` would move its state, which may be large, once for each word.
+    let mut hasher = H::fresh();
+    for word in words {
         hasher.feed(*word);
-        hasher
-    });
-    fed.end()
+    }
+    hasher.end()
 }
