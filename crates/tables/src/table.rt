@@ -65,12 +65,12 @@ fn note_name(
 {
     let name = entry.name.as_str();
     let line = entry.line;
-    match seen.insert(String::from_str(heap, name)?, line)? {
-        None => Ok(()),
-        Some(before) => Err(TableFault::NameTwice {
-            line,
-            name: shown(heap, name)?,
-            before,
-        }),
+    // Kept: looked up before it is copied. `insert` asks for the copy first, and where a long name stands twice the fault
+    // would be want of memory.
+    if let Some(before) = seen.get(name).copied() {
+        let name = shown(heap, name)?;
+        return Err(TableFault::NameTwice { line, name, before });
     }
+    seen.insert(String::from_str(heap, name)?, line)?;
+    Ok(())
 }
