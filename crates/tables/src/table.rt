@@ -66,7 +66,7 @@ fn note_name(
     let name = entry.name.as_str();
     let line = entry.line;
     // Kept: looked up before it is copied. `insert` asks for the copy first, and where a long name stands twice the fault
-    // would be want of memory.
+    // may be want of memory.
     if let Some(before) = seen.get(name).copied() {
         let name = shown(heap, name)?;
         return Err(TableFault::NameTwice { line, name, before });
