@@ -1,3 +1,4 @@
+pub mod Cloning
 pub mod Counting
 pub mod Indexing
 pub mod Surveying

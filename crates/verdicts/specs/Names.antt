@@ -1,10 +1,24 @@
 -- The rules of a table by their names. Assumes nothing.
 use Rattle.std.specs.Prelude.{◌≡◌, ℕ, ◌<◌, List, length, Some, None, vec_items, Option, String, ◌≢◌, slice_index_or}
 use Rattle.std.specs.Borrow.{Bor}
-use Rattle.std.specs.BTreeMap.{get_by_text}
+use Rattle.std.specs.BTreeMap.{get_by_text, IsOrdered}
+use Rattle.std.specs.String.{string_cmp}
 use Rattle.std.specs.BTreeMap.{BTreeMap}
 use Rattle.tables.specs.declared.line.Entry.{Entry}
 use Rattle.tables.specs.Rules.{name_of}
+
+-- the place below n of a rule with this name, or none where no such rule has it
+abbrev pub PlaceBelow : List Entry → ℕ → List ℕ → Option ℕ → Type 0
+PlaceBelow es n name None = (i : ℕ) (d : Entry) → i < n → name_of (slice_index_or es i d) ≢ name
+PlaceBelow es n name (Some i) = (i < n) × ((d : Entry) → name_of (slice_index_or es i d) ≡ name)
+
+-- the map has at each name the place of a rule with that name among the first n
+abbrev pub IndexesBelow : {Y : Type 0} → List Entry → ℕ → BTreeMap (String Y) ℕ → Type 0
+IndexesBelow es n m = IsOrdered string_cmp m × ((name : List ℕ) → PlaceBelow es n name (get_by_text m name))
+
+-- and among all of them
+abbrev pub Indexes : {Y : Type 0} → List Entry → BTreeMap (String Y) ℕ → Type 0
+Indexes es m = IndexesBelow es (length es) m
 
 abbrev pub words_of : Entry → List ℕ
 words_of e = vec_items e.words
@@ -21,7 +35,3 @@ Lacks es name = (i : ℕ) (d : Entry) → i < length es → name_of (slice_index
 abbrev pub FoundAs : List Entry → List ℕ → Option (Bor Entry) → Type 0
 FoundAs es name None = Lacks es name
 FoundAs es name (Some e) = Named es name e.now
-
--- what the map has at each name is the rule that is found
-abbrev pub Indexes : {Y : Type 0} → List Entry → BTreeMap (String Y) (Bor Entry) → Type 0
-Indexes es m = (name : List ℕ) → FoundAs es name (get_by_text m name)

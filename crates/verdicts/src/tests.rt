@@ -1,6 +1,7 @@
 // What is said of rules, as it is printed.
 use crate::census::Census;
 use crate::comparison::{Uncompared, compare_named};
+use crate::names::{Names, find, index};
 use crate::outcome::{Outcome, Side};
 use crate::pairs::PairTable;
 use crate::survey::Survey;
@@ -97,6 +98,28 @@ fn shows_partners(rt: HostRuntime) -> Result<(), Fail> {
     pairs.places[1024] = 1023;
     pairs.places[1029] = 0;
     shows(&rt, pairs, ": #0 -> #5, #1023 -> #0")
+}
+
+// A name leads to the place of its rule, and the place to the rule, also in a copy.
+#[test]
+fn finds_rules(rt: HostRuntime) -> Result<(), Fail> {
+    let heap = rt.alloc();
+    let table = read_bytes(heap, b"# two rules\na: 40 0 0 0\nb:\n")?;
+    let entries = table.as_slice();
+    let places = index(heap, entries)?;
+    let copied_places = places.clone()?;
+    let names = Names::of(heap, entries)?;
+    let copied_names = names.clone()?;
+    for (name, place, line) in [
+        ("a", Some(0), Some(2)),
+        ("b", Some(1), Some(3)),
+        ("c", None, None),
+    ] {
+        assert_eq!(rt; copied_places.get(name).copied(), place);
+        assert_eq!(rt; find(entries, &places, name).map(|entry| entry.line), line);
+        assert_eq!(rt; copied_names.get(name).map(|entry| entry.line), line);
+    }
+    Ok(())
 }
 
 fn compares<'n, R: Abort + AllocGlobal>(
