@@ -1,6 +1,6 @@
 -- The clone of an index is an index of the same rules. Assumes nothing.
-use Rattle.std.proofs.Common.{◌≡◌, ℕ, cond, List, [], ◌∷◌, length, Some, String, string_bytes, sym, refl, ap, ◌∙◌, subst}
-use Rattle.std.specs.BTreeMap.{BTreeMap, get_by_text, is_at, IsClone}
+use Rattle.std.proofs.Common.{◌≡◌, ℕ, cond, List, [], ◌∷◌, length, Some, String, string_bytes, sym, refl, ◌∙◌, subst}
+use Rattle.std.specs.BTreeMap.{BTreeMap, is_at, IsClone}
 use Rattle.std.specs.Cmp.Lexicographic.{slice_cmp}
 use Rattle.std.specs.List.{AllByRecursion, AllZip}
 use Rattle.std.specs.List.Sorted.{IsStrictlySortedBy}
