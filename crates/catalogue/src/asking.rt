@@ -2,6 +2,7 @@
 ghost use Rattle.std.specs.Prelude.{◌≡◌, ℕ};
 ghost use Rattle.catalogue.specs.Calls.{PartDone, RunDone};
 ghost use Rattle.catalogue.specs.Kinds.{sense};
+ghost use Rattle.catalogue.specs.Numbers.{Bounded};
 ghost use Rattle.catalogue.specs.Promise.{Promised};
 ghost use Rattle.catalogue.specs.States.{state};
 ghost use Rattle.hashing.specs.Words.{hash_by};
@@ -21,13 +22,15 @@ pub fn class_count<K: Kind, H: Hasher>(
     ensures count { result ≡ cat.now.classes }
     ensures promise { Promised (sense K.meets K.same K.feed K.Fault.number kind.now) (hash_by H.Hasher)
         (state cat.now slots.now units.now) result }
+    ensures bounded { Bounded cat.now }
 {
     cat.classes
 }
 
 /// How many entries stand.
 pub fn standing<H>(cat: &Catalogue<H>) -> usize
-    ensures { result ≡ cat.now.standing }
+    ensures count { result ≡ cat.now.standing }
+    ensures bounded { Bounded cat.now }
 {
     cat.standing
 }
@@ -35,14 +38,16 @@ pub fn standing<H>(cat: &Catalogue<H>) -> usize
 /// The class of an entry.
 // Kept: beside `hash_of`, one expression each: what the two share is `slot_of`.
 pub fn class_of<H>(cat: &Catalogue<H>, slots: &[Slot], number: usize) -> Result<usize, NotStanding>
-    ensures { PartDone cat.now slots.now number (λ s. s.class) result }
+    ensures done { PartDone cat.now slots.now number (λ s. s.class) result }
+    ensures bounded { Bounded cat.now }
 {
     Ok(slot_of(cat, slots, number)?.class)
 }
 
 /// The hash of an entry.
 pub fn hash_of<H>(cat: &Catalogue<H>, slots: &[Slot], number: usize) -> Result<u64, NotStanding>
-    ensures { PartDone cat.now slots.now number (λ s. s.hash) result }
+    ensures done { PartDone cat.now slots.now number (λ s. s.hash) result }
+    ensures bounded { Bounded cat.now }
 {
     Ok(slot_of(cat, slots, number)?.hash)
 }
@@ -54,13 +59,15 @@ pub fn run_of<'a, H, U>(
     units: &'a [U],
     number: usize,
 ) -> Result<&'a [U], NotStanding>
-    ensures { RunDone cat.now slots.now units.now number result }
+    ensures done { RunDone cat.now slots.now units.now number result }
+    ensures bounded { Bounded cat.now }
 {
     slot_of(cat, slots, number)?.run(units).ok_or(NotStanding)
 }
 
 fn slot_of<H>(cat: &Catalogue<H>, slots: &[Slot], number: usize) -> Result<Slot, NotStanding>
-    ensures { PartDone cat.now slots.now number (λ s. s) result }
+    ensures done { PartDone cat.now slots.now number (λ s. s) result }
+    ensures bounded { Bounded cat.now }
 {
     if number >= cat.standing {
         return Err(NotStanding);

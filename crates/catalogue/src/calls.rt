@@ -1,7 +1,7 @@
 // The calls that alter a catalogue, or search it.
 ghost use Rattle.catalogue.specs.Calls.{CutDone, EnterDone, FindDone};
 ghost use Rattle.catalogue.specs.Kinds.{sense};
-ghost use Rattle.catalogue.specs.Numbers.{nothing};
+ghost use Rattle.catalogue.specs.Numbers.{Bounded, nothing};
 ghost use Rattle.catalogue.specs.States.{slot_at, state};
 ghost use Rattle.hashing.specs.Words.{hash_by};
 ghost use Rattle.std.specs.Prelude.{◌≡◌, ◌+◌, ◌<◌, ◌≤◌, MatchOption};
@@ -35,12 +35,14 @@ pub fn enter<K: Kind, H: Hasher>(
     units: &mut [K::Unit],
     run: &[K::Unit],
 ) -> Result<Entered, Fault<K::Fault>>
-    ensures { EnterDone (sense K.meets K.same K.feed K.Fault.number kind.now (hash_by H.Hasher))
+    ensures done { EnterDone (sense K.meets K.same K.feed K.Fault.number kind.now (hash_by H.Hasher))
         (state cat.old slots.old units.old) run.now result
         (state cat.new slots.new units.new) }
+    ensures before { Bounded cat.old }
+    ensures bounded { Bounded cat.new }
 {
-    kind.intake(run)?;
     let number = cat.standing;
+    kind.intake(run)?;
     let start = cat.used;
     let begun = cat.classes;
     if number >= slots.len() || number >= MOST_ENTRIES {
@@ -74,17 +76,21 @@ pub fn find<K: Kind, H: Hasher>(
     units: &[K::Unit],
     run: &[K::Unit],
 ) -> Result<Option<usize>, K::Fault>
-    ensures { FindDone (sense K.meets K.same K.feed K.Fault.number kind.now (hash_by H.Hasher))
+    ensures done { FindDone (sense K.meets K.same K.feed K.Fault.number kind.now (hash_by H.Hasher))
         (state cat.now slots.now units.now) run.now result }
+    ensures bounded { Bounded cat.now }
 {
+    let standing = cat.standing;
     kind.intake(run)?;
     let hash = kind.hash::<H>(run);
-    Ok(first_same(kind, cat.standing, slots, units, hash, run))
+    Ok(first_same(kind, standing, slots, units, hash, run))
 }
 
 /// Keeps the first `keep` entries. The memory behind them is used again.
 pub fn cut<H>(cat: &mut Catalogue<H>, slots: &[Slot], keep: usize) -> Result<(), NotStanding>
-    ensures { CutDone cat.old slots.now keep result cat.new }
+    ensures done { CutDone cat.old slots.now keep result cat.new }
+    ensures before { Bounded cat.old }
+    ensures bounded { Bounded cat.new }
 {
     if keep > cat.standing {
         return Err(NotStanding);

@@ -15,8 +15,8 @@ by-entry s r i p e q = rw e (ap (λ (x : ℕ × ℕ). x.0) q, ap (λ (x : ℕ ×
 by-none : {U : Type 0} (s : State U) (r : Option ℕ) (p : ℕ × ℕ) → r ≡ None → p ≡ (s.numbers.classes, s.numbers.classes + 1) → Classed s r p.0 p.1
 by-none s r p e q = rw e (ap (λ (x : ℕ × ℕ). x.0) q, ap (λ (x : ℕ × ℕ). x.1) q)
 
-pub returns : goal.returns
-returns g c =
+pub returns-clause-done : goal.returns-clause-done
+returns-clause-done g c =
     let f = hash_by g.H.Hasher in
     let a : Numbers = record { standing = c.cat.inside.standing; used = c.cat.inside.used; classes = c.cat.inside.classes } in
     let s = state a c.args.slots.now c.args.units.now in
