@@ -75,10 +75,10 @@ impl Kind for Names {
     fn hash<H: Hasher>(&self, run: &[u8]) -> u64 {
         let mut hasher = H::fresh();
         hasher.feed(run.len() as u64);
-        let fed = run.iter().fold(hasher, |mut hasher, byte| {
+        // Kept: no `fold`, which moves the hasher for each byte; here it is fed in place, whatever its size.
+        for byte in run {
             hasher.feed(u64::from(*byte));
-            hasher
-        });
-        fed.end()
+        }
+        hasher.end()
     }
 }

@@ -1,5 +1,6 @@
 // Rules as a kind of entry.
 ghost use Rattle.std.specs.Prelude.{◌≡◌, ℕ, List};
+ghost use Rattle.catalogue.specs.Numbers.{Bounded};
 ghost use Rattle.catalogue.specs.States.{state};
 ghost use Rattle.hashing.specs.Words.{hash_by};
 ghost use Rattle.kinds.specs.Rules.{RulesPromised, meets_rule, rule_feed, same_rule};
@@ -95,6 +96,7 @@ impl Kind for Rules {
 pub fn class_count<H: Hasher>(cat: &Catalogue<H>, slots: &[Slot], units: &[u32]) -> usize
     ensures count { result ≡ cat.now.classes }
     ensures promise { RulesPromised (hash_by H.Hasher) (state cat.now slots.now units.now) result }
+    ensures bounded { Bounded cat.now }
 {
     asking::class_count::<Rules, H>(cat, &Rules, slots, units)
 }
