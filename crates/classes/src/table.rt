@@ -1,5 +1,5 @@
 // Enters each rule of a table into a catalogue.
-ghost use Rattle.catalogue.specs.Numbers.{nothing};
+ghost use Rattle.catalogue.specs.Numbers.{Bounded, nothing};
 ghost use Rattle.catalogue.specs.States.{state};
 ghost use Rattle.classes.specs.Tables.{Classed, EntersAll};
 ghost use Rattle.hashing.specs.Words.{hash_by};
@@ -30,7 +30,8 @@ pub fn class_table<H: Hasher>(
     slots: &mut [Slot],
     units: &mut [u32],
 ) -> Result<ClassedTable<H>, AllocError>
-    ensures { IfOk result (λ t. Classed (hash_by H.Hasher) entries.now t.answers.items (state t.cat slots.new units.new) t.classes) }
+    ensures classed { IfOk result (λ t. Classed (hash_by H.Hasher) entries.now t.answers.items (state t.cat slots.new units.new) t.classes) }
+    ensures bounded { IfOk result (λ t. Bounded t.cat) }
 {
     let mut cat = Catalogue::new();
     let answers = enter_rules(heap, &mut cat, entries, slots, units)?;

@@ -16,7 +16,7 @@ loop-entry-preserved g c =
       entered-more (rules f) c.args.entries.now c.loop-entry.entry-index c.entry-item.result c.as_slice.result.now
           (vec_items c.loop-entry.answers) (vec_items c.push.new.self) c.enter-answer.result
           (state c.loop-entry.cat c.loop-entry.slots c.loop-entry.units) (state c.enter-answer.new.cat c.enter-answer.new.slots c.enter-answer.new.units)
-          c.loop-entry-test.true c.entry-item.is c.as_slice.ensures.value c.loop-entry.invariant.0 pushed c.loop-entry.invariant.1 c.enter-answer.ensures,
+          c.loop-entry-test.true c.entry-item.is c.as_slice.ensures.value c.loop-entry.invariant.0 pushed c.loop-entry.invariant.1 c.enter-answer.ensures.done,
     )
 
 pub returns : goal.returns
