@@ -5,3 +5,5 @@
 pub mod answer;
 pub mod perform;
 pub mod store;
+#[cfg(test)]
+mod tests;

@@ -1,5 +1,6 @@
 // One call, performed.
 ghost use Rattle.catalogue.specs.Kinds.{sense};
+ghost use Rattle.catalogue.specs.Numbers.{Bounded};
 ghost use Rattle.catalogue.specs.States.{state};
 ghost use Rattle.hashing.specs.Words.{hash_by};
 ghost use Rattle.replays.specs.Performed.{Performed, RunCopied};
@@ -29,6 +30,8 @@ pub fn perform<K: Kind, H: Hasher>(
         (state cat.old slots.old units.old) call.now answer
         (state cat.new slots.new units.new)) }
     ensures failed { OnErr result (state cat.new slots.new units.new ≡ state cat.old slots.old units.old) }
+    ensures before { Bounded cat.old }
+    ensures bounded { Bounded cat.new }
 {
     match call {
         Call::Enter(run) => Ok(Answer::Enter(enter(cat, kind, slots, units, run.as_slice()))),
@@ -50,7 +53,8 @@ fn copied_run<H, U: Copy>(
     units: &[U],
     number: usize,
 ) -> Result<Result<Vec<U>, NotStanding>, AllocError>
-    ensures { IfOk result (RunCopied cat.now slots.now units.now number) }
+    ensures copied { IfOk result (RunCopied cat.now slots.now units.now number) }
+    ensures bounded { Bounded cat.now }
 {
     match run_of(cat, slots, units, number) {
         Ok(run) => Ok(Ok(Vec::from_slice(heap, run)?)),

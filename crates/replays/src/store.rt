@@ -1,6 +1,6 @@
 // A catalogue with memory of its own.
 ghost use Rattle.catalogue.specs.Kinds.{sense};
-ghost use Rattle.catalogue.specs.Numbers.{nothing};
+ghost use Rattle.catalogue.specs.Numbers.{Bounded, nothing};
 ghost use Rattle.catalogue.specs.States.{state};
 ghost use Rattle.hashing.specs.Words.{hash_by};
 ghost use Rattle.replays.specs.Performed.{Performed};
@@ -61,6 +61,8 @@ impl<K: Kind, H: Hasher> Store<K, H> {
             (state self.new.cat self.new.slots.items self.new.units.items)) }
         ensures failed { OnErr result (state self.new.cat self.new.slots.items self.new.units.items
             ≡ state self.old.cat self.old.slots.items self.old.units.items) }
+        ensures before { Bounded self.old.cat }
+        ensures bounded { Bounded self.new.cat }
     {
         perform(
             heap,
