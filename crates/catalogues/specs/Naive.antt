@@ -38,12 +38,12 @@ abbrev pub Answered : Model → Event ℕ NameFault → Model → Type 0
 Answered m e t = Answers names m.slots m.units (runs_of m) e (runs_of t) × SameRoom m t
 
 -- the answers of the model are those of a catalogue; but where its own vector is full it may have no memory for a run that is to be entered
-abbrev pub EnterAnswered : Model → List ℕ → Result Answer AllocError → Model → Type 0
-EnterAnswered m run (Ok (Entered n c)) t = Answered m (entering run (Ok (record { number = n; class = c }))) t
-EnterAnswered m run (Ok (Refused n)) t = (f : Fault NameFault) × (n ≡ number_of name_number f) × Answered m (entering run (Err f)) t
-EnterAnswered m run (Ok _) t = ⊥
-EnterAnswered m run (Err _) t = EnterGranted names m.slots m.units (length (runs_of m)) (total (runs_of m)) run
+abbrev pub EnterAnswered : Model → List ℕ → Answer → Model → Type 0
+EnterAnswered m run (Entered n c) t = Answered m (entering run (Ok (record { number = n; class = c }))) t
+EnterAnswered m run (Refused n) t = (f : Fault NameFault) × (n ≡ number_of name_number f) × Answered m (entering run (Err f)) t
+EnterAnswered m run Other t = EnterGranted names m.slots m.units (length (runs_of m)) (total (runs_of m)) run
     × (vec_capacity m.runs ≤ vec_len m.runs) × (runs_of t ≡ runs_of m) × SameRoom m t
+EnterAnswered m run _ t = ⊥
 
 abbrev pub FindAnswered : Model → List ℕ → Answer → Type 0
 FindAnswered m run (Found o) = Answered m (finding run (Ok o)) m
@@ -56,9 +56,20 @@ CutAnswered m keep (Refused n) t = (f : NotStanding) × (n ≡ not_standing_numb
 CutAnswered m keep _ t = ⊥
 
 -- the other calls are not the model's to answer
-abbrev pub CallAnswered : Model → Call → Result Answer AllocError → Model → Type 0
-CallAnswered m (Enter run) r t = Modest m → EnterAnswered m run.now r t
-CallAnswered m (Find run) (Ok a) t = FindAnswered m run.now a × (t ≡ m)
-CallAnswered m (ToCut keep) (Ok a) t = CutAnswered m keep a t
-CallAnswered m _ (Ok a) t = (a ≡ Other) × (t ≡ m)
-CallAnswered m _ (Err _) t = ⊥
+abbrev pub CallAnswered : Model → Call → Answer → Model → Type 0
+CallAnswered m (Enter run) a t = Modest m → EnterAnswered m run.now a t
+CallAnswered m (Find run) a t = FindAnswered m run.now a × (t ≡ m)
+CallAnswered m (ToCut keep) a t = CutAnswered m keep a t
+CallAnswered m _ a t = (a ≡ Other) × (t ≡ m)
+
+---- calls that fail where there is no memory for a run that is to be entered
+
+abbrev pub EnterTried : Model → List ℕ → Result Answer AllocError → Model → Type 0
+EnterTried m run (Ok Other) t = ⊥
+EnterTried m run (Ok a) t = EnterAnswered m run a t
+EnterTried m run (Err _) t = EnterAnswered m run Other t
+
+abbrev pub CallTried : Model → Call → Result Answer AllocError → Model → Type 0
+CallTried m (Enter run) r t = Modest m → EnterTried m run.now r t
+CallTried m call (Ok a) t = CallAnswered m call a t
+CallTried m _ (Err _) t = ⊥

@@ -2,7 +2,7 @@
 use crate::memory::Store;
 use crate::model::Model;
 use crate::picks::Picks;
-use crate::words::Answer;
+use crate::words::{Answer, Call};
 use catalogue::record::Slot;
 use hashing::fnv1a::Fnv1a;
 use hashing::hasher::Hasher;
@@ -36,7 +36,7 @@ pub(crate) fn follows<H: Hasher, R: Abort + AllocGlobal>(
     };
     for _ in 0..300 {
         let call = picks.call();
-        assert_eq!(rt; store.answer(call), model.answer(call)?);
+        assert_eq!(rt; store.answer(call), model.try_answer(call)?);
         agrees(rt, store, &model);
     }
     Ok(())
@@ -67,4 +67,15 @@ fn both_hashers_answer_as_the_model(rt: HostRuntime) -> Result<(), Fail> {
     same_history(&rt, 1, 20, 1000)?;
     same_history(&rt, 2, 20, 60)?;
     same_history(&rt, 3, 5, 2000)
+}
+
+#[test]
+fn the_model_answers_no_other_call(rt: HostRuntime) {
+    let mut model = Model {
+        runs: Vec::new(rt.alloc()),
+        slots: 1,
+        units: 1,
+    };
+    assert_eq!(rt; model.answer(Call::Enter(b"a")), Answer::Entered(0, 0));
+    assert_eq!(rt; model.answer(Call::Counts), Answer::Other);
 }

@@ -3,7 +3,7 @@ ghost use Rattle.std.specs.Prelude.{◌≡◌, ℕ, ◌<◌, length, min, IfErr,
 ghost use Rattle.catalogue.specs.Classes.{Begun, ClassOf, FirstSame, entry};
 ghost use Rattle.catalogue.specs.Kinds.{FirstOf, SoundBy};
 ghost use Rattle.catalogue.specs.Model.{total};
-ghost use Rattle.catalogues.specs.Naive.{CallAnswered, CutAnswered, EnterAnswered, FindAnswered, Modest, names, runs_of};
+ghost use Rattle.catalogues.specs.Naive.{CallAnswered, CallTried, CutAnswered, EnterTried, FindAnswered, Modest, names, runs_of};
 ghost use Rattle.kinds.specs.Names.{meets_name};
 ghost use Rattle.kinds.specs.Numbers.{name_number};
 
@@ -21,9 +21,16 @@ pub struct Model {
 }
 
 impl Model {
-    /// It fails for want of memory for a run that is to be entered only.
-    pub fn answer(&mut self, call: Call) -> Result<Answer, AllocError>
+    /// It answers `Other` too where there is no memory for a run that is to be entered.
+    pub fn answer(&mut self, call: Call) -> Answer
         ensures { CallAnswered self.old call result self.new }
+    {
+        self.try_answer(call).unwrap_or(Answer::Other)
+    }
+
+    /// It fails for want of memory for a run that is to be entered only.
+    pub fn try_answer(&mut self, call: Call) -> Result<Answer, AllocError>
+        ensures { CallTried self.old call result self.new }
     {
         match call {
             Call::Enter(run) => self.enter(run),
@@ -34,7 +41,7 @@ impl Model {
     }
 
     fn enter(&mut self, run: &'static [u8]) -> Result<Answer, AllocError>
-        ensures { Modest self.old → EnterAnswered self.old run.now result self.new }
+        ensures { Modest self.old → EnterTried self.old run.now result self.new }
     {
         let number = self.runs.len();
         if let Err(fault) = tested(run) {
