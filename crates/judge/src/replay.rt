@@ -2,7 +2,7 @@
 use crate::hashers::{UnderHasher, under_hasher};
 use crate::source::{Trouble, load_script};
 use catalogue::kind::Kind;
-use catalogue::record::Slot;
+use catalogue::record::{Catalogue, Slot};
 use hashing::hasher::Hasher;
 use kinds::names::Names;
 use kinds::rules::Rules;
@@ -59,9 +59,15 @@ where
             calls,
         } = self;
         let heap = rt.alloc();
-        let free = Slot::default();
-        let unit = K::Unit::default();
-        let mut store = Store::<K, H>::new(heap, kind, heading.slots, heading.units, free, unit)?;
+        // Kept: no `Store::new`, which makes the slots first; where the units cannot be had, no slot is filled here.
+        let units = vec![in heap; K::Unit::default(); heading.units]?;
+        let slots = vec![in heap; Slot::default(); heading.slots]?;
+        let mut store = Store {
+            kind,
+            cat: Catalogue::<H>::new(),
+            slots,
+            units,
+        };
         for call in calls {
             let answer = store.answer(heap, call)?;
             rt.println(&answer)?;
