@@ -10,7 +10,7 @@ use Rattle.catalogues.proofs.Runs.{length-row}
 use Rattle.catalogues.proofs.model.Model.enter.Goals as goal
 
 pub returns-in-Err : goal.returns-in-Err
-returns-in-Err c _ = (Input c.in-Err.fault, c.number.ensures, ((c.in-Err.ensures.first, refl), (refl, refl)))
+returns-in-Err c _ = (Input c.in-Err.fault, omega (arith, c.number.ensures), ((c.in-Err.ensures.first, refl), (refl, refl)))
 
 pub returns-in_err-push : goal.returns-in_err-push
 returns-in_err-push c modest =
