@@ -1,5 +1,5 @@
 -- The grounds in their order: what passes up to a number.
-use Rattle.std.proofs.Common.{◌≡◌, ℕ, ◌+◌, ◌<◌, ◌≤◌, cond, eqb, ◌⊎◌, List, sym, refl, ap, ◌∙◌, subst, inl, inr, arith}
+use Rattle.std.proofs.Common.{◌≡◌, ℕ, ◌+◌, ◌<◌, ◌≤◌, cond, eqb, ◌⊎◌, List, take, sym, refl, ap, ◌∙◌, subst, inl, inr, arith, length-take}
 use Rattle.std.proofs.lemmas.Bool.{cases_lt}
 use Rattle.rule.specs.declared.fault.Fault.{Fault}
 use Rattle.rule.specs.declared.fault.Fault.TheVariants.{TooLong, CutShort, OutsideRow, NotATree, WrongClass, BadScope, SameAsNothing}
@@ -50,5 +50,5 @@ pub refused-at : (ws : List ℕ) (k : ℕ) (f : Fault) → number_of f ≡ k + 1
 refused-at ws k f e u n = record { met = n; before = λ g h. u g (omega arith) }
 
 -- the places of the nodes of an accepted run
-pub accepted-read : (most : ℕ) (ws : List ℕ) (n : Nodes) → 2 ≤ most → Accepted most ws n → Read ws n.at.items
-accepted-read most ws n h a = record { places = a.places; short = a.passes TooLong (omega arith); whole = a.passes CutShort (omega arith); few = a.few }
+pub accepted-read : (most : ℕ) (ws : List ℕ) (n : Nodes) → 2 ≤ most → Accepted most ws n → Read ws (take n.count n.at)
+accepted-read most ws n h a = record { places = a.places; short = a.passes TooLong (omega arith); whole = a.passes CutShort (omega arith); few = omega (arith, a.few, length-take n.count n.at) }

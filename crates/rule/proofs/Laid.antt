@@ -1,9 +1,15 @@
 -- The places of the nodes, found one node after the other.
-use Rattle.std.proofs.Common.{◌≡◌, ℕ, zero, suc, ◌+◌, ◌-◌, ◌*◌, ◌<◌, ◌≤◌, List, [], ◌∷◌, ◌++◌, length, get_or, drop, sym, refl, ap, ◌∙◌, subst, ⊎_elim, arith, length-drop, length-append}
-use Rattle.std.proofs.lemmas.List.{drop_more, get_or-drop, append_assoc, append-nil}
+use Rattle.std.proofs.Common.{◌≡◌, ℕ, zero, suc, ◌+◌, ◌-◌, ◌*◌, ◌<◌, ◌≤◌, List, [], ◌∷◌, ◌++◌, length, get_or, take, drop, min, sym, refl, ap, ◌∙◌, subst, ⊎_elim, arith, length-drop, length-append}
+use Rattle.std.proofs.lemmas.List.{take_all, drop_more, get_or-drop, append_assoc, append-nil}
 use Rattle.std.proofs.lemmas.Bool.{cases_lt}
 use Rattle.rule.specs.Intake.{Whole, Read, nodes, offset}
 use Rattle.rule.specs.Run.{lacks, starts, offsets, kids_at}
+
+-- the first n of a list, where there are so many
+pub take_within : {A : Type 0} (xs : List A) (n m : ℕ) → m ≡ min n (length xs) → take m xs ≡ take n xs
+take_within xs n m e =
+    ⊎_elim (λ (h : n < length xs). let f : m ≡ n = omega arith in ap (λ k. take k xs) f)
+    (λ (h : length xs ≤ n). take_all m xs (omega arith) ∙ sym (take_all n xs h)) (cases_lt n (length xs))
 
 -- the rest of a node passed over
 starts-skip : (p k : ℕ) (xs : List ℕ) → k ≤ length xs → starts p k xs ≡ starts (p + k) 0 (drop k xs)

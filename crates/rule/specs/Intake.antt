@@ -1,5 +1,5 @@
 -- The grounds on which a run is refused, each by what a run has that does not meet it.
-use Rattle.std.specs.Prelude.{◌≡◌, ℕ, ◌+◌, ◌-◌, ◌<◌, ◌≤◌, Bool, true, false, ◌||◌, List, length, Some, None, Option, ◌==◌, slice_index}
+use Rattle.std.specs.Prelude.{◌≡◌, ℕ, ◌+◌, ◌-◌, ◌<◌, ◌≤◌, Bool, true, false, ◌||◌, List, length, take, Some, None, Option, ◌==◌, slice_index}
 use Rattle.rule.specs.declared.fault.Fault.{Fault}
 use Rattle.rule.specs.declared.fault.Fault.TheVariants.{TooLong, CutShort, OutsideRow, NotATree, WrongClass, BadScope, SameAsNothing}
 use Rattle.rule.specs.declared.nodes.Node.{Node}
@@ -104,8 +104,8 @@ pub record Refused (ws : List ℕ) (f : Fault) : Type 0 where
 -- no ground up to the number `most` is met, and the nodes are found where they begin
 pub record Accepted (most : ℕ) (ws : List ℕ) (n : Nodes) : Type 0 where
   pub passes : (g : Fault) → number_of g ≤ most → Passes g ws
-  pub places : n.at.items ≡ offsets ws
-  pub few : length n.at.items ≤ 2048
+  pub places : take n.count n.at ≡ offsets ws
+  pub few : n.count ≤ 2048
 
 ---- what the parts of the intake say
 

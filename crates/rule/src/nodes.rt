@@ -1,4 +1,4 @@
-ghost use Rattle.std.specs.Prelude.{◌≡◌, ◌+◌, ◌-◌, ◌<◌, ◌≤◌, ◌↔◌, length, slice_index, IfSome, IsNone, IfOk, IfErr};
+ghost use Rattle.std.specs.Prelude.{◌≡◌, ◌+◌, ◌-◌, ◌<◌, ◌≤◌, ◌↔◌, length, slice_index, take, IfSome, IsNone, IfOk, IfErr};
 ghost use Rattle.rule.specs.Faults.{number_of};
 ghost use Rattle.rule.specs.Intake.{Read, Refused};
 
@@ -7,7 +7,6 @@ use crate::comparison::Comparison;
 use crate::fault::Fault;
 use crate::lookup::row_of;
 use crate::rows::Row;
-use arrayvec::ArrayVec;
 
 /// The longest rule, in words.
 pub const MOST_WORDS: usize = 8192;
@@ -15,18 +14,20 @@ pub const MOST_WORDS: usize = 8192;
 /// The most nodes that the longest rule has: each is four words or more.
 pub const MOST_NODES: usize = 2048;
 
-/// The places at which the nodes of a rule begin, in their order.
-#[derive(Drop)]
+/// The places at which the nodes of a rule begin, in their order: the first `count` places of `at`.
+// Kept: an array and a count, since a vector of fixed capacity is not Copy.
+#[derive(Clone, Copy)]
 pub struct Nodes {
-    pub at: ArrayVec<u16, MOST_NODES>,
+    pub at: [u16; MOST_NODES],
+    pub count: usize,
 }
 
 impl Nodes {
     /// The places, in the order of the nodes.
     pub fn places(&self) -> &[u16]
-        ensures { result.now ≡ self.now.at.items }
+        ensures { result.now ≡ take self.now.count self.now.at }
     {
-        self.at.as_slice()
+        &self.at[..self.count.min(MOST_NODES)]
     }
 }
 
@@ -168,7 +169,7 @@ impl<'w, 'p> Iterator for NodeIter<'w, 'p> {
 
 // The nodes of a run of words; a run that is too long, empty, or ends inside a node has none.
 pub(crate) fn read_nodes(words: &[u32]) -> Result<Nodes, Fault>
-    ensures ok { IfOk result (λ n. Read words.now n.at.items) }
+    ensures ok { IfOk result (λ n. Read words.now (take n.count n.at) × (n.count ≤ 2048)) }
     ensures err { IfErr result (λ f. Refused words.now f × (number_of f ≤ 2)) }
 {
     if words.len() > MOST_WORDS {
@@ -177,14 +178,16 @@ pub(crate) fn read_nodes(words: &[u32]) -> Result<Nodes, Fault>
     if words.is_empty() {
         return Err(Fault::CutShort);
     }
-    let mut at = ArrayVec::new();
+    let mut at = [0; MOST_NODES];
+    let mut count = 0;
     let mut rest = words;
     while !rest.is_empty() {
         let [_, _, _, kids, behind @ ..] = rest else {
             return Err(Fault::CutShort);
         };
-        at.push((words.len() - rest.len()) as u16);
+        at[count] = (words.len() - rest.len()) as u16;
+        count += 1;
         rest = behind.get(*kids as usize..).ok_or(Fault::CutShort)?;
     }
-    Ok(Nodes { at })
+    Ok(Nodes { at, count })
 }
