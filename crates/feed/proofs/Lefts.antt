@@ -1,20 +1,24 @@
 -- The children of a node that are left, one after the other.
-use Rattle.std.proofs.Common.{◌≡◌, ℕ, ◌+◌, ◌-◌, ◌<◌, ◌≤◌, List, [], ◌++◌, length, reverse, get_or, Some, None, Option, sym, ap, ◌∙◌, subst, ⊎_elim, arith}
+use Rattle.std.proofs.Common.{◌≡◌, ℕ, ◌+◌, ◌-◌, ◌<◌, ◌≤◌, List, [], ◌++◌, length, reverse, get_or, Some, None, Option, sym, ap, ap₂, ◌∙◌, subst, ⊎_elim, arith}
 use Rattle.std.specs.List.{slice_get, flat_map}
 use Rattle.std.proofs.lemmas.List.{at_drop_more, at_drop_all, get_or-reverse, length-reverse}
 use Rattle.std.proofs.lemmas.Bool.{cases_lt}
 use Rattle.std.proofs.lemmas.Option.{slice_get_within, get_or_from_slice_get, slice_get-get_or}
 use Rattle.rule.specs.declared.nodes.Node.{Node}
-use Rattle.sameness.specs.Reducing.{NodeReduced}
+use Rattle.sameness.specs.declared.kind.Kind.{Kind}
+use Rattle.sameness.specs.Kinds.{IsNode}
 use Rattle.feed.specs.declared.way.Way.{Way}
 use Rattle.feed.specs.declared.way.Way.TheVariants.{Direct, Exchanged, ByHash}
 use Rattle.feed.specs.Ways.{way_of, walked_by, walked}
+use Rattle.feed.specs.Nodes.{node_in}
 use Rattle.feed.specs.Pending.{node_feed, left}
+use Rattle.feed.proofs.Nodes.{IsReduced, way-read}
 
 -- what the code takes for the next child
-pub walked-next : (n : Node) (q : ℕ) {x : Option ℕ} {y : Way} → y ≡ way_of n → x ≡ slice_get (walked_by y n.kids.now) q → x ≡ slice_get (walked n) q
+pub walked-next : {ws : List ℕ} {k : Kind} {n : Node} → IsNode ws k n → (q : ℕ) {x : Option ℕ} {y : Way} → y ≡ way_of n → x ≡ slice_get (walked_by y n.kids.now) q → x ≡ slice_get (walked (node_in ws k)) q
 unfolding walked
-walked-next n q e h = h ∙ ap (λ z. slice_get (walked_by z n.kids.now) q) e
+walked-next {ws} {k} {n} r q e h =
+    h ∙ ap₂ (λ y ks. slice_get (walked_by y ks) q) (e ∙ way-read ws k n r) r.kids
 
 ---- what is left
 
@@ -46,7 +50,7 @@ walked-few Direct ns = omega arith
 walked-few Exchanged ns = omega (arith, length-reverse ns)
 walked-few ByHash ns = omega arith
 
-module _ (ws : List ℕ) (i : ℕ) (n : Node) (r : NodeReduced ws i n) (q x : ℕ) (e : slice_get (walked n) q ≡ Some x) where
+module _ (ws : List ℕ) (i : ℕ) (n : Node) (r : IsReduced ws i n) (q x : ℕ) (e : slice_get (walked n) q ≡ Some x) where
   pub child-below : x < i
   unfolding walked
   child-below = let p = child_at (way_of n) n.kids.now q x e in subst (λ z. z < i) p.2 (r.below p.0 p.1)

@@ -2,6 +2,7 @@ pub mod Steps
 pub mod Agreeing
 pub mod Theorems
 pub mod Comparisons
+pub mod Nodes
 pub mod Orders
 pub mod Lefts
 pub mod Stacks

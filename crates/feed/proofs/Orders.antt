@@ -9,7 +9,6 @@ use Rattle.rule.specs.declared.nodes.Node.{Node}
 use Rattle.rule.specs.Comparisons.{comparison_number, comparison_of}
 use Rattle.rule.specs.Nodes.{comparison_in}
 use Rattle.sameness.specs.Reduction.{reduce_all}
-use Rattle.sameness.specs.Reducing.{NodeReduced}
 use Rattle.sameness.specs.Sameness.{bare_v, bare_w}
 use Rattle.sameness.specs.Walking.{trees_at, kids_in, tree_in}
 use Rattle.feed.specs.declared.operands.Operands.{Operands}
@@ -19,6 +18,7 @@ use Rattle.feed.specs.Feed.{Order, ordered, exchanged, unordered, order, fed_v, 
 use Rattle.feed.specs.Ways.{way_by, way_at, fed_as, way_of, walked_by, walked, hashes_in, head_of}
 use Rattle.feed.specs.Pending.{node_feed, node_hash, left, operands_of, noted_by, noted_of}
 use Rattle.feed.proofs.Comparisons.{Other, by_comparison}
+use Rattle.feed.proofs.Nodes.{IsReduced}
 
 ---- the way of a node and the order of its children
 
@@ -192,6 +192,6 @@ module _ (f : List ℕ → ℕ) (ws : List ℕ) (n : Node) where
       ap₂ (λ m ls. n.code ∷ (fed_v n.code (bare_v n.code n.v) ∷ (bare_w n.code n.v n.w ∷ (m ∷ ls)))) l r
 
   -- node i feeds its own words, and then what its children feed that are left: all
-  pub node-feed : (i : ℕ) (o : Option Operands) → NodeReduced ws i n → o ≡ noted_of f ws n → node_feed f ws i ≡ head_of n o ++ left f ws n 0
+  pub node-feed : (i : ℕ) (o : Option Operands) → IsReduced ws i n → o ≡ noted_of f ws n → node_feed f ws i ≡ head_of n o ++ left f ws n 0
   unfolding node_feed
   node-feed i o r e = ap (feed f) (sym r.tree) ∙ reduced-feed ∙ ap (λ z. head_of n z ++ left f ws n 0) (sym e)

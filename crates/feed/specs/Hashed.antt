@@ -3,7 +3,7 @@ use Rattle.std.specs.Prelude.{◌≡◌, ℕ, ◌<◌, ◌≤◌, List, length, 
 use Rattle.rule.specs.declared.fault.Fault.{Fault}
 use Rattle.rule.specs.Trees.{tree_of}
 use Rattle.rule.specs.Intake.{nodes}
-use Rattle.rule.specs.declared.nodes.Node.{Node}
+use Rattle.sameness.specs.declared.kind.Kind.{Kind}
 use Rattle.sameness.specs.Reducing.{NodeReduced, kind_in}
 use Rattle.sameness.specs.Comparing.{Sound, Unsound}
 use Rattle.feed.specs.Feed.{hash_of}
@@ -14,9 +14,9 @@ Hashed f ws (Ok h) = Sound ws × (h ≡ hash_of f (tree_of ws))
 Hashed f ws (Err g) = Unsound ws g
 
 -- what each node of such a run comes to
-pub record AllReduced (ws : List ℕ) (ns : List Node) : Type 0 where
+pub record AllReduced (ws : List ℕ) (ks : List Kind) : Type 0 where
   pub short : length ws ≤ 8192
-  pub some : 0 < length ns
-  pub few : length ns ≤ 2048
-  pub all : length ns ≡ nodes ws
-  pub each : (i : ℕ) → i < length ns → NodeReduced ws i (kind_in ns i)
+  pub some : 0 < length ks
+  pub few : length ks ≤ 2048
+  pub all : length ks ≡ nodes ws
+  pub each : (i : ℕ) → i < length ks → NodeReduced ws i (kind_in ks i)

@@ -2,13 +2,14 @@
 use Rattle.std.specs.Prelude.{◌≡◌, ℕ, ◌<◌, ◌≤◌, min, max, Some, None, Option, List, length, drop, flat_map, slice_index, slice_index_or}
 use Rattle.rule.specs.Trees.{tree_at}
 use Rattle.rule.specs.declared.nodes.Node.{Node}
+use Rattle.sameness.specs.declared.kind.Kind.{Kind}
 use Rattle.sameness.specs.Reduction.{reduce}
-use Rattle.sameness.specs.Reducing.{kind_in}
 use Rattle.feed.specs.declared.operands.Operands.{Operands}
 use Rattle.feed.specs.declared.walk.Frame.{Frame}
 use Rattle.feed.specs.declared.way.Way.{Way}
 use Rattle.feed.specs.declared.way.Way.TheVariants.{Direct, Exchanged, ByHash}
 use Rattle.feed.specs.Feed.{feed}
+use Rattle.feed.specs.Nodes.{node_at}
 use Rattle.feed.specs.Ways.{way_of, walked}
 
 -- what node i feeds
@@ -24,8 +25,8 @@ unfoldable pub left : (List ℕ → ℕ) → List ℕ → Node → ℕ → List 
 left f ws n q = flat_map (node_feed f ws) (drop q (walked n))
 
 -- what is left under the frames of a stack, the last of them first
-abbrev pub pending : (List ℕ → ℕ) → List ℕ → List Node → List Frame → List ℕ
-pending f ws ns frames = flat_map (λ frame. left f ws (kind_in ns frame.node) frame.done) frames
+abbrev pub pending : (List ℕ → ℕ) → List ℕ → List Kind → List Frame → List ℕ
+pending f ws ks frames = flat_map (λ frame. left f ws (node_at ws ks frame.node) frame.done) frames
 
 -- the hashes of the two operands of a node
 unfoldable pub operands_of : (List ℕ → ℕ) → List ℕ → Node → Operands
@@ -48,6 +49,6 @@ abbrev pub operands_in : List (Option Operands) → ℕ → Option Operands
 operands_in os i = slice_index_or os i None
 
 -- it is noted of the first nodes, as many as os has places
-pub record AllNoted (f : List ℕ → ℕ) (ws : List ℕ) (ns : List Node) (os : List (Option Operands)) : Type 0 where
-  pub few : length os ≤ length ns
-  pub each : (i : ℕ) → i < length os → operands_in os i ≡ noted_of f ws (kind_in ns i)
+pub record AllNoted (f : List ℕ → ℕ) (ws : List ℕ) (ks : List Kind) (os : List (Option Operands)) : Type 0 where
+  pub few : length os ≤ length ks
+  pub each : (i : ℕ) → i < length os → operands_in os i ≡ noted_of f ws (node_at ws ks i)

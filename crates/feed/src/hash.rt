@@ -13,21 +13,22 @@ use rule::fault::Fault;
 use sameness::reducing::{Reduced, reduce_rule};
 
 // The hash of the root. The operands of each Eq and Ne are hashed before it, the lower nodes first.
-fn hash_root<H: Hasher>(words: &[u32], rule: &Reduced) -> u64
+fn hash_root<'a, H: Hasher>(words: &'a [u32], rule: &'a Reduced) -> u64
     requires { RuleReduced words.now rule.now }
     ensures { result ≡ hash_of (hash_by H.Hasher) (tree_of words.now) }
 {
-    let nodes = rule.kinds();
+    let kinds = rule.kinds();
     let mut noted = Noted {
         words,
-        nodes,
+        kinds,
         operands: ArrayVec::new(),
     };
-    for node in nodes {
-        let operands = noted.hash_operands::<H>(*node);
+    for kind in kinds {
+        let node = kind.node(words).unwrap();
+        let operands = noted.hash_operands::<H>(node);
         noted.operands.push(operands);
     }
-    noted.hash_node::<H>(nodes.len() - 1)
+    noted.hash_node::<H>(kinds.len() - 1)
 }
 
 /// The hash of a rule by a hasher, or the first ground of 1 to 6 on which the words are refused. Rules that are the

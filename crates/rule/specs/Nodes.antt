@@ -12,6 +12,7 @@ pub record Spelt (ws : List ℕ) (o : ℕ) (n : Node) : Type 0 where
   pub code : n.code ≡ code_at ws o
   pub v : n.v ≡ v_at ws o
   pub w : n.w ≡ w_at ws o
+  pub first : n.first ≡ o + 4
   pub count : length n.kids.now ≡ kids_at ws o
   pub each : (q : ℕ) → q < kids_at ws o → slice_index n.kids.now q ≡ kid_at ws o q
 

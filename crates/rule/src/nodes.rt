@@ -31,12 +31,14 @@ impl Nodes {
     }
 }
 
-/// A node: its code, its two words, and the numbers of its children. The default is an absent child.
+/// A node: its code, its two words, and the numbers of its children, which stand in the run from the place `first` on. The
+/// default is an absent child.
 #[derive(Clone, Copy, Default)]
 pub struct Node<'a> {
     pub code: u32,
     pub v: u32,
     pub w: u32,
+    pub first: u16,
     pub kids: &'a [u32],
 }
 
@@ -121,6 +123,7 @@ impl<'w, 'p> Rule<'w, 'p> {
             code: self.words[place],
             v: self.words[place + 1],
             w: self.words[place + 2],
+            first: first as u16,
             kids: &self.words[first..first + kids],
         }
     }

@@ -16,7 +16,7 @@ use Rattle.sameness.proofs.BlockShapes.{shape-code, block-body, stmt-returns, co
 
 ---- an empty tuple
 
-module _ (ws : List ℕ) (k : Node) (c : k.code ≡ 33) (v : k.v ≡ 0) (w : k.w ≡ 0) (e : k.kids.now ≡ []) where
+module _ (ws : List ℕ) (k : Node) (c : k.code ≡ 33) (v : k.v ≡ 0) (w : k.w ≡ 0) (f : k.first ≡ 0) (e : k.kids.now ≡ []) where
   unit-tree : tree_in ws k ≡ node 33 0 0 nil
   unfolding trees_at reduce_all
   unit-tree = rw (c, v, w, e) refl
@@ -25,7 +25,7 @@ module _ (ws : List ℕ) (k : Node) (c : k.code ≡ 33) (v : k.v ≡ 0) (w : k.w
   unfolding role declared used
   unit-held top =
       let l : length k.kids.now ≡ 0 = ap length e in
-      record { within = omega arith; below = λ q m. absurd (omega arith); low = λ x m. rw c refl; kids_low = λ q m. absurd (omega arith) }
+      record { within = omega arith; stands = λ q m. absurd (omega arith); below = λ q m. absurd (omega arith); low = λ x m. rw c refl; kids_low = λ q m. absurd (omega arith) }
 
   pub inside-empty : (top : ℕ) (t : Tree) → is_absent t ≡ true → (u : ℕ) → Inner ws (node 94 0 u (one t)) top k
   inside-empty top t a u = record { tree = λ x y. unit-tree ∙ sym (comes-empty x y u t a); held = unit-held top }

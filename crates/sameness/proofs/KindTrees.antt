@@ -38,7 +38,7 @@ kids-two ws (x ∷ (y ∷ [])) e = refl
 kids-two ws (x ∷ (y ∷ (z ∷ ks))) e = absurd (omega arith)
 
 -- the n children whose numbers stand at p and behind it, by the list of these numbers
-kids-named : (ws ks : List ℕ) (p n : ℕ) → length ks ≡ n → ((q : ℕ) → q < n → get_or ks q 0 ≡ get_or ws (p + q) 0) → kids_of (trees_of ws) ws p n ≡ trees_at ws ks
+pub kids-named : (ws ks : List ℕ) (p n : ℕ) → length ks ≡ n → ((q : ℕ) → q < n → get_or ks q 0 ≡ get_or ws (p + q) 0) → kids_of (trees_of ws) ws p n ≡ trees_at ws ks
 unfolding kids_of trees_at tree_at
 kids-named ws [] p zero e h = refl
 kids-named ws [] p (suc n) e h = absurd (omega arith)
@@ -83,7 +83,8 @@ module _ (ws os : List ℕ) (d : Read ws os) (t : Treelike ws) (i : ℕ) (h : i 
   pub kind-held : Low (tree_at ws i) → Held ws k i
   kind-held l =
       record {
-        within = omega (arith, e.count, read_fits ws os d i h);
+        within = omega (arith, e.count, e.first, read_fits ws os d i h);
+        stands = λ q m. (kid q m).1 ∙ ap (λ p. get_or ws (p + q) 0) (sym e.first);
         below = λ q m. subst (λ z. z < i) (sym (kid q m).1) (kid-below ws os d t i q h (kid q m).0);
         low = λ x m. rw (e.code, e.v, e.w) (low-own ws os d t i h l x m);
         kids_low = λ q m. subst (λ z. Low (tree_at ws z)) (sym (kid q m).1) (low-kid ws os d t i q h (kid q m).0 l);
@@ -91,4 +92,4 @@ module _ (ws os : List ℕ) (d : Read ws os) (t : Treelike ws) (i : ℕ) (h : i 
 
 -- a higher top
 pub held_up : (ws : List ℕ) (k : Node) (i j : ℕ) → i ≤ j → Held ws k i → Held ws k j
-held_up ws k i j h d = record { within = d.within; below = λ q l. let b = d.below q l in omega arith; low = d.low; kids_low = d.kids_low }
+held_up ws k i j h d = record { within = d.within; stands = d.stands; below = λ q l. let b = d.below q l in omega arith; low = d.low; kids_low = d.kids_low }

@@ -20,6 +20,7 @@ pub mod Walks
 pub mod Overs
 pub mod BlockShapes
 pub mod KindTrees
+pub mod KindNodes
 pub mod Lowness
 pub mod Inside
 pub mod Asking

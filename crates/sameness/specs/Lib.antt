@@ -7,5 +7,6 @@ pub mod TrialRules
 pub mod Walking
 pub mod Sides
 pub mod Blocks
+pub mod Kinds
 pub mod Comparing
 pub mod Reducing

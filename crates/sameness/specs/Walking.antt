@@ -23,9 +23,10 @@ tree_in ws k = node k.code k.v k.w (kids_in ws k)
 abbrev pub Low : Tree → Type 0
 Low t = (x : ℕ) → 1023 < x → decls x t + uses_of x t ≡ 0
 
--- a node whose children are nodes below top, with low locals in it and below it
+-- a node whose children are nodes below top, their numbers in the run, with low locals in it and below it
 pub record Held (ws : List ℕ) (k : Node) (top : ℕ) : Type 0 where
-  pub within : length k.kids.now ≤ length ws
+  pub within : k.first + length k.kids.now ≤ length ws
+  pub stands : (q : ℕ) → q < length k.kids.now → slice_index k.kids.now q ≡ slice_index ws (k.first + q)
   pub below : (q : ℕ) → q < length k.kids.now → slice_index k.kids.now q < top
   pub low : (x : ℕ) → 1023 < x → declared x (role k.code k.v k.w) + used x (role k.code k.v k.w) ≡ 0
   pub kids_low : (q : ℕ) → q < length k.kids.now → Low (tree_at ws (slice_index k.kids.now q))

@@ -1,15 +1,56 @@
-// A node of a rule with all that is below it; and what a block expression comes to.
-ghost use Rattle.std.specs.Prelude.{◌≡◌, ◌<◌, ◌&&◌, length, ◌==◌, slice_index};
+// A node of a rule with all that is below it; what a block expression comes to; and a node by its place in the run.
+ghost use Rattle.std.specs.Prelude.{◌≡◌, ◌+◌, ◌<◌, ◌≤◌, ◌&&◌, length, ◌==◌, slice_index, IfSome, IsSome};
 ghost use Rattle.rule.specs.Intake.{Treelike};
 ghost use Rattle.rule.specs.Nodes.{Spelt};
 ghost use Rattle.rule.specs.Trees.{tree_at};
 ghost use Rattle.sameness.specs.Blocks.{Comes, Made};
+ghost use Rattle.sameness.specs.Kinds.{IsNode, kind_of};
 ghost use Rattle.sameness.specs.Reduction.{reduce};
 ghost use Rattle.sameness.specs.Sameness.{one, pair};
 ghost use Rattle.sameness.specs.Walking.{Held, Low, tree_in};
 
 use rule::codes::{ABSENT, BLOCK_EXPR, EXPR_STMT, RETURN, SEMI_STMT, TUPLE};
 use rule::nodes::{Node, Rule};
+
+/// A node without the run that it is of: the numbers of its `kids` children stand in the run from the place `first` on.
+#[derive(Clone, Copy, Default)]
+pub struct Kind {
+    pub code: u32,
+    pub v: u32,
+    pub w: u32,
+    pub first: usize,
+    pub kids: usize,
+}
+
+impl Kind {
+    pub(crate) fn of(node: Node) -> Kind
+        ensures { result ≡ kind_of node.entry }
+    {
+        Kind {
+            code: node.code,
+            v: node.v,
+            w: node.w,
+            first: usize::from(node.first),
+            kids: node.kids.len(),
+        }
+    }
+
+    /// The node, in the run `words`; none where the run ends before its children's numbers do, or no rule is so long.
+    pub fn node<'a>(self, words: &'a [u32]) -> Option<Node<'a>>
+        ensures some { IfSome result (λ n. IsNode words.now self n) }
+        ensures there { self.first < 65536 → self.first + self.kids ≤ length words.now → IsSome result }
+    {
+        let first = u16::try_from(self.first).ok()?;
+        let kids = words.get(self.first..)?.get(..self.kids)?;
+        Some(Node {
+            code: self.code,
+            v: self.v,
+            w: self.w,
+            first,
+            kids,
+        })
+    }
+}
 
 // Node `number` of a rule whose nodes form a tree, with all that is below it. No local in it is above 1023.
 #[derive(Clone, Copy)]

@@ -7,7 +7,7 @@ ghost use Rattle.sameness.specs.TrialRules.{TrialRules};
 
 pub mod compare;
 mod eq;
-mod kind;
+pub mod kind;
 pub mod reducing;
 pub mod words;
 

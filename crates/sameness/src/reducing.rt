@@ -1,31 +1,33 @@
 // The nodes of a rule, each reduced.
 ghost use Rattle.sameness.specs.Comparing.{Unsound};
 ghost use Rattle.sameness.specs.Reducing.{RuleReduced};
-ghost use Rattle.std.specs.Prelude.{◌≡◌, IfOk, IfErr};
+ghost use Rattle.std.specs.Prelude.{◌≡◌, ◌≤◌, length, take, IfOk, IfErr};
 
-use crate::kind::Branch;
-use arrayvec::ArrayVec;
+use crate::kind::{Branch, Kind};
 use rule::fault::Fault;
 use rule::intake::intake;
-use rule::nodes::{MOST_NODES, Node, Rule};
+use rule::nodes::{MOST_NODES, Rule};
 
-/// What each node comes to, in the order of the nodes.
-#[derive(Drop)]
-pub struct Reduced<'a> {
-    pub kinds: ArrayVec<Node<'a>, MOST_NODES>,
+/// What each node comes to, in the order of the nodes: the first `count` places of `kinds`.
+// Kept: an array and a count, since a vector of fixed capacity is not Copy.
+#[derive(Clone, Copy)]
+pub struct Reduced {
+    pub kinds: [Kind; MOST_NODES],
+    pub count: usize,
 }
 
-impl<'a> Reduced<'a> {
+impl Reduced {
     /// What the nodes come to, in their order.
-    pub fn kinds(&self) -> &[Node<'a>]
-        ensures { result.now ≡ self.now.kinds.items }
+    pub fn kinds(&self) -> &[Kind]
+        ensures first { result.now ≡ take self.now.count self.now.kinds }
+        ensures count { self.now.count ≤ 2048 → length result.now ≡ self.now.count }
     {
-        self.kinds.as_slice()
+        &self.kinds[..self.count.min(MOST_NODES)]
     }
 }
 
 /// A run of words as a rule with its nodes reduced, or the first ground of 1 to 6 on which it is refused.
-pub fn reduce_rule<'a>(words: &'a [u32]) -> Result<Reduced<'a>, Fault>
+pub fn reduce_rule(words: &[u32]) -> Result<Reduced, Fault>
     ensures ok { IfOk result (λ d. RuleReduced words.now d) }
     ensures err { IfErr result (λ f. Unsound words.now f) }
 {
@@ -34,10 +36,13 @@ pub fn reduce_rule<'a>(words: &'a [u32]) -> Result<Reduced<'a>, Fault>
         words,
         at: nodes.places(),
     };
-    let mut kinds = ArrayVec::new();
+    let mut kinds = [Kind::default(); MOST_NODES];
     // Kept: a branch is a node's number and all that is below it, and the loop reads no node itself.
-    for number in 0..rule.at.len() {
-        kinds.push(Branch { rule, number }.reduce_exprkind());
+    for number in 0..nodes.count {
+        kinds[number] = Kind::of(Branch { rule, number }.reduce_exprkind());
     }
-    Ok(Reduced { kinds })
+    Ok(Reduced {
+        kinds,
+        count: nodes.count,
+    })
 }

@@ -4,4 +4,4 @@ use Rattle.sameness.proofs.reducing.reduce_rule.Given as goal
 
 -- the nodes so far are reduced
 abbrev pub invariant-loop-number : goal.invariant-loop-number
-invariant-loop-number l = (length l.kinds.items ≡ l.number) × ((j : ℕ) → j < l.number → NodeReduced l.words j (kind_in l.kinds.items j))
+invariant-loop-number l = record { long : length l.kinds ≡ 2048; each : (j : ℕ) → j < l.number → NodeReduced l.words j (kind_in l.kinds j) }

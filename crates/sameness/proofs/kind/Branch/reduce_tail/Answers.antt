@@ -12,7 +12,7 @@ returns-then-is_absent c =
     let s = c.args.self in
     let d = c.default.ensures in
     let a = kind-absent _ _ s.rule.read s.treelike _ s.within _ c.node-tail.ensures in
-    inside-empty _ _ refl d.1.0 d.1.1.0 d.1.1.1 _ _ (a ∙ sym c.if-is_absent.ensures)
+    inside-empty _ _ refl d.1.0 d.1.1.0 d.1.1.1.0 d.1.1.1.1 _ _ (a ∙ sym c.if-is_absent.ensures)
 
 pub returns : goal.returns
 returns c =
