@@ -23,6 +23,7 @@ pub struct Kind {
 }
 
 impl Kind {
+    // The same node, told by places.
     pub(crate) fn of(node: Node) -> Kind
         ensures { result ≡ kind_of node.entry }
     {
@@ -35,7 +36,8 @@ impl Kind {
         }
     }
 
-    /// The node, in the run `words`; none where the run ends before its children's numbers do, or no rule is so long.
+    /// The node as the run `words` has it. There is none where its children's numbers do not stand within the run, or begin
+    /// behind the place 65,535, which no rule reaches.
     pub fn node<'a>(self, words: &'a [u32]) -> Option<Node<'a>>
         ensures some { IfSome result (λ n. IsNode words.now self n) }
         ensures there { self.first < 65536 → self.first + self.kids ≤ length words.now → IsSome result }

@@ -18,8 +18,8 @@ invariant_of-reduce_exprkind c =
     let a = c.in_ok-nodes.ensures in
     let n = c.in_ok-nodes.nodes in
     let d : Read c.args.words.now c.places.result.now = rw c.places.ensures (accepted-read 6 _ n (omega arith) a) in
-    let h : c.loop-number.number < length c.places.result.now = omega (arith, ap length c.places.ensures, length-take n.count n.at) in
-    record { within = h; treelike = a.passes NotATree (omega arith); low = node-low _ _ d a.passes _ h }
+    let l : length c.places.result.now ≡ n.count = omega (arith, ap length c.places.ensures, length-take n.count n.at) in
+    record { within = omega (arith, l); treelike = a.passes NotATree (omega arith); low = node-low _ _ d a.passes _ (omega (arith, l)) }
 
 pub loop-number-preserved : goal.loop-number-preserved
 loop-number-preserved c =
