@@ -1,14 +1,15 @@
 -- Where a text is cut at its blanks. Assumes nothing.
-use Rattle.std.proofs.Common.{◌≡◌, ℕ, suc, ◌+◌, ◌-◌, ◌<◌, ◌≤◌, Bool, true, false, eqb, List, [], ◌∷◌, ◌++◌, length, get_or, take, drop, Option, Some, None, MatchOption, sym, refl, ap, ◌∙◌, subst, ⊎_elim, add-zero, append_assoc, append-nil, arith, length-append}
+use Rattle.std.proofs.Common.{◌≡◌, ℕ, suc, ◌+◌, ◌-◌, ◌<◌, ◌≤◌, Bool, true, eqb, List, [], ◌∷◌, ◌++◌, IsUtf8, length, get_or, take, drop, Option, Some, None, MatchOption, sym, refl, ap, ◌∙◌, subst, ⊎_elim, add-zero, append_assoc, append-nil, arith, length-append}
 use Rattle.std.specs.Char.{char_set_contains}
 use Rattle.std.specs.Option.{unwrap_or}
-use Rattle.std.specs.Str.{NoCharPasses}
-use Rattle.std.specs.Str.Pattern.{FindsBy, FindsPrefixBy, FindsSuffixBy, CutsPrefixes, CutsSuffixes, IsTrimStartMatches, IsTrimEndMatches, MatchBeginsAt}
+use Rattle.std.specs.List.{AllWithin, HoldsAt}
+use Rattle.std.specs.Str.{IsCharBoundary}
+use Rattle.std.specs.Str.Pattern.{FindsSuffixBy, CutsSuffixes, IsTrimEndMatches}
 use Rattle.std.proofs.Math.Utf8.{low_scalar}
 use Rattle.std.proofs.lemmas.List.{take-append-drop, get_or-take, get_or-drop, get_or_append_left, get_or-append_right, length-take-le, length-drop, drop_all, drop_more, nil_from_length}
 use Rattle.std.proofs.lemmas.Bool.{false_from_ne_true, or_cases, eqb-true, cases_lt, both_ways, cond-true, cond-false}
 use Rattle.std.proofs.lemmas.Bool.Decides.{nat_tests}
-use Rattle.std.proofs.lemmas.Str.{encode_ascii, len_utf8_bounds, NoCharPasses-byte}
+use Rattle.std.proofs.lemmas.Str.{IsCharBoundary-start, IsCharBoundary-after_ascii, encode_ascii, len_utf8_bounds}
 use Rattle.std.proofs.lemmas.Str.Pattern.{drop_at_char}
 use Rattle.tables.specs.Lines.{skipped}
 use Rattle.tables.specs.Pieces.{blank, Blanks, Cut, Trimmed}
@@ -31,38 +32,11 @@ one_blank c h = λ i l. let first : 0 ≡ i = omega arith in subst (λ j. blank 
 abbrev Asks : (ℕ → Bool) → Type 0
 Asks k = (c : ℕ) → char_set_contains (32 ∷ 9 ∷ []) c ≡ k c
 
-abbrev AtFront : List ℕ → Option ℕ → Type 0
-AtFront w o = (k : ℕ → Bool) → Asks k → FindsPrefixBy k w o
-
 abbrev AtEnd : List ℕ → Option ℕ → Type 0
 AtEnd w o = (k : ℕ → Bool) → Asks k → FindsSuffixBy k w o
 
-abbrev Anywhere : List ℕ → Option (ℕ × ℕ) → Type 0
-Anywhere w o = (k : ℕ → Bool) → Asks k → FindsBy k w o
-
 blank_set : Asks blank
 blank_set c = grind (arith, nat_tests)
-
--- blanks that are cut off the front, one after the other
-cut_fronts : (bs ns rest : List ℕ) → CutsPrefixes AtFront bs ns rest → (gap : List ℕ) × (bs ≡ gap ++ rest) × Blanks true gap
-cut_fronts bs [] rest h = ([], sym h, λ i l. absurd (omega arith))
-cut_fronts bs (n ∷ ns) rest (m, earlier, one, e) =
-    let (gap, whole, dark) = cut_fronts bs ns m earlier in
-    let (c, is, at) = one blank blank_set in
-    let cut : m ≡ c ∷ rest = drop_at_char c m 0 n at (blank-ascii c is) ∙ ap (λ l. c ∷ l) (sym e) in
-    (gap ++ (c ∷ []), whole ∙ ap (λ l. gap ++ l) cut ∙ sym (append_assoc gap (c ∷ []) rest), blanks-append true gap (c ∷ []) dark (one_blank c is))
-
-no-front : (bs : List ℕ) (o : Option ℕ) → FindsPrefixBy blank bs o → MatchOption o (Unit {0}) (λ n. n ≡ 0) → 0 < length bs → blank (get_or bs 0 0) ≡ true → ⊥
-no-front [] o f e some h = omega arith
-no-front (b ∷ bs) None f e some h =
-    let small = blank-ascii b h in
-    both_ways (blank b) (f b bs (low_scalar b (omega arith)) (ap (λ l. l ++ bs) (sym (encode_ascii b small)))) h
-no-front (b ∷ bs) (Some n) (c, is, at) e some h = omega (arith, at.ends, e, (len_utf8_bounds c).0)
-
-pub skips : (bs rest : List ℕ) → IsTrimStartMatches AtFront bs rest → (gap : List ℕ) × Cut true bs gap rest
-skips bs rest ((ns, cuts), (o, found, none)) =
-    let (gap, whole, dark) = cut_fronts bs ns rest cuts in
-    (gap, record { whole = whole; alike = dark; ends = λ some h. no-front rest o (found blank blank_set) none some h })
 
 -- blanks that are cut off the end
 cut_ends : (bs ns name : List ℕ) → CutsSuffixes AtEnd bs ns name → (after : List ℕ) × (bs ≡ name ++ after) × Blanks true after
@@ -98,30 +72,40 @@ trims bs gap rest name skip ((ns, cuts), (o, found, none)) =
       last = λ some. false_from_ne_true _ (no-end name o (found blank blank_set) none some);
     }
 
--- where the first blank is, or the end
-lacks : (bs : List ℕ) → NoCharPasses blank bs → (i : ℕ) → i < length bs → blank (get_or bs i 0) ≡ false
-lacks bs h i l =
-    let b = get_or bs i 0 in
-    false_from_ne_true (blank b) (λ e. both_ways (blank b) (NoCharPasses-byte blank bs i h l (blank-ascii b e)) e)
+-- the first n bytes of bs are its longest front of one kind
+pub record Longest (t : Bool) (n : ℕ) (bs : List ℕ) : Type 0 where
+  pub within : n ≤ length bs
+  pub alike : (i : ℕ) → i < n → blank (get_or bs i 0) ≡ t
+  pub ends : n < length bs → blank (get_or bs n 0) ≡ t → ⊥
 
-cut_at : (bs : List ℕ) (n : ℕ) (front rest : List ℕ) → n ≤ length bs → ((i : ℕ) → i < n → blank (get_or bs i 0) ≡ false) → (n < length bs → blank (get_or bs n 0) ≡ true) → front ≡ take n bs → rest ≡ drop n bs → Cut false bs front rest
-cut_at bs n front rest within alike ends f r =
+-- the first byte of the other kind ends it
+pub longest_first : (t : Bool) (bs : List ℕ) (r : Option ℕ)
+    → MatchOption r (AllWithin (λ b. blank b ≡ t) bs 0 (length bs)) (λ i. (i < length bs) × HoldsAt (λ b. blank b ≡ t → ⊥) bs i × AllWithin (λ b. blank b ≡ t) bs 0 i)
+    → Longest t (unwrap_or r (length bs)) bs
+longest_first t bs None h = record { within = omega arith; alike = λ i l. h i 0 (omega arith) l; ends = λ l. absurd (omega arith) }
+longest_first t bs (Some n) h = let l = h.0 in record { within = omega arith; alike = λ i k. h.2 i 0 (omega arith) k; ends = λ k. h.1 0 }
+
+-- a cut after blanks falls between characters
+pub after-blanks : (bs : List ℕ) (n : ℕ) → IsUtf8 bs → Longest true n bs → IsCharBoundary bs n
+after-blanks bs n u run =
+    ⊎_elim
+    (λ more.
+    let back : n - 1 + 1 ≡ n = omega arith in
+    subst (IsCharBoundary bs) back (IsCharBoundary-after_ascii bs (n - 1) u (omega (arith, run.within)) (blank-ascii (get_or bs (n - 1) 0) (run.alike (n - 1) (omega arith)))))
+    (λ none. let start : 0 ≡ n = omega arith in subst (IsCharBoundary bs) start (IsCharBoundary-start bs u))
+    (cases_lt 0 n)
+
+pub cut_at : (t : Bool) (bs : List ℕ) (n : ℕ) (front rest : List ℕ) → Longest t n bs → front ≡ take n bs → rest ≡ drop n bs → Cut t bs front rest
+cut_at t bs n front rest run f r =
+    let within = run.within in
     let long = ap length f ∙ length-take-le n bs within in
     let left = ap length r ∙ length-drop n bs in
     let next : get_or rest 0 0 ≡ get_or bs n 0 = ap (λ l. get_or l 0 0) r ∙ get_or-drop n bs 0 0 ∙ ap (λ i. get_or bs i 0) (add-zero n) in
     record {
       whole = sym ((λ i. f i ++ r i) ∙ take-append-drop n bs);
-      alike = λ i l. let in-front : i < n = omega arith in ap blank (ap (λ xs. get_or xs i 0) f ∙ get_or-take n bs i 0 in-front) ∙ alike i in-front;
-      ends = λ some bright. both_ways (blank (get_or rest 0 0)) bright (ap blank next ∙ ends (omega arith));
+      alike = λ i l. let in-front : i < n = omega arith in ap blank (ap (λ xs. get_or xs i 0) f ∙ get_or-take n bs i 0 in-front) ∙ run.alike i in-front;
+      ends = λ some same. run.ends (omega arith) (sym (ap blank next) ∙ same);
     }
-
-pub cuts : (bs : List ℕ) (o : Option ℕ) (front rest : List ℕ) → MatchOption o (Anywhere bs None) (MatchBeginsAt Anywhere bs) → front ≡ take (unwrap_or o (length bs)) bs → rest ≡ drop (unwrap_or o (length bs)) bs → Cut false bs front rest
-cuts bs None front rest found f r = cut_at bs (length bs) front rest (omega arith) (lacks bs (found blank blank_set)) (λ l. absurd (omega arith)) f r
-cuts bs (Some i) front rest (j, found, _, (within, _), _) f r =
-    let (none, (c, is, at)) = found blank blank_set in
-    let before : (k : ℕ) → k < i → blank (get_or bs k 0) ≡ false = λ k l.
-    ap blank (sym (get_or-take i bs k 0 l)) ∙ lacks (take i bs) none k (omega (arith, length-take-le i bs within)) in
-    cut_at bs i front rest within before (λ l. ap blank (at.byte (blank-ascii c is)) ∙ is) f r
 
 -- a line after its blanks
 skip-gap : (gap rest : List ℕ) → Blanks true gap → skipped (gap ++ rest) ≡ skipped rest

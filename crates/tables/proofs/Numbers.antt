@@ -1,11 +1,9 @@
 -- Digits, one more of them, and what they write. Assumes nothing.
-use Rattle.std.proofs.Common.{◌≡◌, ℕ, ◌^◌, ◌<◌, ◌≤◌, true, false, ◌&&◌, List, [], ◌∷◌, length, IsErrAnd, MatchResult, Ok, Err, Result, sym, refl, ap, ◌∙◌, subst, inl, inr, ⊎_elim, arith}
+use Rattle.std.proofs.Common.{◌≡◌, ℕ, ◌<◌, ◌≤◌, true, false, ◌&&◌, List, [], ◌∷◌, length, Ok, Err, Result, sym, refl, ap, ◌∙◌, subst, inl, inr, ⊎_elim, arith}
 use Rattle.std.specs.Char.{digit_value, is_digit}
 use Rattle.std.specs.List.{list_all}
-use Rattle.std.specs.Result.{OkIff}
-use Rattle.std.specs.Str.Parse.{AllDigits, IsNumeral, ParsesUnsigned, digits_value, without_leading_plus}
-use Rattle.std.proofs.lemmas.Bool.{and_parts, both_ways, cases_lt, lt-ltb, ltb-true}
-use Rattle.std.proofs.lemmas.Result.{err_from_is_err_and}
+use Rattle.std.specs.Str.Parse.{AllDigits, IsNumeral, digits_value, without_leading_plus}
+use Rattle.std.proofs.lemmas.Bool.{and_parts, both_ways, lt-ltb, ltb-true}
 use Rattle.std.proofs.lemmas.Str.Parse.{without_leading_plus_none}
 use Rattle.tables.specs.declared.word.WordFault.{WordFault}
 use Rattle.tables.specs.declared.word.WordFault.TheVariants.{NotANumber, TooLarge}
@@ -29,22 +27,8 @@ no-plus : (radix : ℕ) (ds : List ℕ) → radix ≤ 16 → IsNumeral radix ds 
 no-plus radix [] low n = absurd (omega (arith, n.0))
 no-plus radix (d ∷ ds) low n = without_leading_plus_none (d ∷ ds) (λ e. omega (arith, n.1.0, ap digit_value e))
 
--- what the library reads of digits alone, where an error can only mean a number past 32 bits
-pub digits_read : {E : Type 0} (radix : ℕ) (ds : List ℕ) (r : Result ℕ E) (s : Result ℕ WordFault) (P : E → WordFault → Type 0) → radix ≤ 16 → 0 < length ds → list_all (λ b. is_digit b radix) ds ≡ true → ParsesUnsigned 32 radix ds r → ((e : E) (f : WordFault) → P e f → f ≡ TooLarge) → MatchResult r (λ n. s ≡ Ok n) (λ e. IsErrAnd s (P e)) → DigitsAs radix ds s
-digits_read {E} radix ds r s P low some all h says made = by r told made
-  where
-    numeral : IsNumeral radix ds
-    numeral = (some, digits-all radix ds all)
-
-    told : OkIff r (IsNumeral radix ds × (digits_value radix ds < 2 ^ 32)) (digits_value radix ds)
-    told = subst (λ l. OkIff r (IsNumeral radix l × (digits_value radix l < 2 ^ 32)) (digits_value radix l)) (no-plus radix ds low numeral) h
-
-    by : (q : Result ℕ E) → OkIff q (IsNumeral radix ds × (digits_value radix ds < 2 ^ 32)) (digits_value radix ds) → MatchResult q (λ n. s ≡ Ok n) (λ e. IsErrAnd s (P e)) → DigitsAs radix ds s
-    by (Ok n) ((_, fits), is) gives = subst (DigitsAs radix ds) (sym gives) (numeral, is, omega arith)
-    by (Err e) none gives =
-        let (f, is, at) = err_from_is_err_and s gives in
-        subst (DigitsAs radix ds) (sym (is ∙ ap Err (says e f at)))
-        (numeral, ⊎_elim (λ l. absurd (none (numeral, l))) (λ l. l) (cases_lt (digits_value radix ds) (2 ^ 32)))
+pub numeral : (radix : ℕ) (ds : List ℕ) → 0 < length ds → list_all (λ b. is_digit b radix) ds ≡ true → IsNumeral radix ds
+numeral radix ds some all = (some, digits-all radix ds all)
 
 -- no decimal number begins with 0x
 no-decimal : (ds : List ℕ) → AllDigits 10 (48 ∷ 120 ∷ ds) → ⊥
