@@ -27,6 +27,8 @@ impl Reduced {
 }
 
 /// A run of words as a rule with its nodes reduced, or the first ground of 1 to 6 on which it is refused.
+// Part of its caller, since a caller that it is not part of clears the 64 KiB of the answer before it is made.
+#[inline(always)]
 pub fn reduce_rule(words: &[u32]) -> Result<Reduced, Fault>
     ensures ok { IfOk result (λ d. RuleReduced words.now d) }
     ensures err { IfErr result (λ f. Unsound words.now f) }
