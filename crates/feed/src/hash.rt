@@ -10,7 +10,7 @@ use crate::walk::Noted;
 use arrayvec::ArrayVec;
 use hashing::hasher::Hasher;
 use rule::fault::Fault;
-use sameness::reducing::{Reduced, reduce_rule};
+use sameness::reducing::{Reduced, reduce_into};
 
 // The hash of the root. The operands of each Eq and Ne are hashed before it, the lower nodes first.
 fn hash_root<'a, H: Hasher>(words: &'a [u32], rule: &'a Reduced) -> u64
@@ -36,6 +36,7 @@ fn hash_root<'a, H: Hasher>(words: &'a [u32], rule: &'a Reduced) -> u64
 pub fn hash_rule<H: Hasher>(words: &[u32]) -> Result<u64, Fault>
     ensures { Hashed (hash_by H.Hasher) words.now result }
 {
-    let rule = reduce_rule(words)?;
+    let mut rule = Reduced::new();
+    reduce_into(words, &mut rule)?;
     Ok(hash_root::<H>(words, &rule))
 }

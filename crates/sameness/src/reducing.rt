@@ -1,7 +1,7 @@
 // The nodes of a rule, each reduced.
 ghost use Rattle.sameness.specs.Comparing.{Unsound};
 ghost use Rattle.sameness.specs.Reducing.{RuleReduced};
-ghost use Rattle.std.specs.Prelude.{◌≡◌, ◌≤◌, length, take, IfOk, IfErr};
+ghost use Rattle.std.specs.Prelude.{◌≡◌, ◌≤◌, length, take, IfOk, IfErr, OnOk, OnErr};
 
 use crate::kind::{Branch, Kind};
 use rule::fault::Fault;
@@ -17,6 +17,16 @@ pub struct Reduced {
 }
 
 impl Reduced {
+    /// No node.
+    pub fn new() -> Reduced
+        ensures { result.count ≡ 0 }
+    {
+        Reduced {
+            kinds: [Kind::default(); MOST_NODES],
+            count: 0,
+        }
+    }
+
     /// What the nodes come to, in their order.
     pub fn kinds(&self) -> &[Kind]
         ensures first { result.now ≡ take self.now.count self.now.kinds }
@@ -27,24 +37,31 @@ impl Reduced {
 }
 
 /// A run of words as a rule with its nodes reduced, or the first ground of 1 to 6 on which it is refused.
-// Part of its caller, since a caller that it is not part of clears the 64 KiB of the answer before it is made.
-#[inline(always)]
 pub fn reduce_rule(words: &[u32]) -> Result<Reduced, Fault>
     ensures ok { IfOk result (λ d. RuleReduced words.now d) }
     ensures err { IfErr result (λ f. Unsound words.now f) }
+{
+    let mut reduced = Reduced::new();
+    reduce_into(words, &mut reduced)?;
+    Ok(reduced)
+}
+
+/// The same, in the caller's memory. A refusal leaves it as it is.
+// Kept: beside `reduce_rule`, whose answer has 64 KiB, and is moved and cleared more often than it is filled.
+pub fn reduce_into(words: &[u32], reduced: &mut Reduced) -> Result<(), Fault>
+    ensures ok { OnOk result (RuleReduced words.now reduced.new) }
+    ensures err { IfErr result (λ f. Unsound words.now f) }
+    ensures refused { OnErr result (reduced.new ≡ reduced.old) }
 {
     let nodes = intake(words)?;
     let rule = Rule {
         words,
         at: nodes.places(),
     };
-    let mut kinds = [Kind::default(); MOST_NODES];
     // Kept: a branch is a node's number and all that is below it, and the loop reads no node itself.
     for number in 0..nodes.count {
-        kinds[number] = Kind::of(Branch { rule, number }.reduce_exprkind());
+        reduced.kinds[number] = Kind::of(Branch { rule, number }.reduce_exprkind());
     }
-    Ok(Reduced {
-        kinds,
-        count: nodes.count,
-    })
+    reduced.count = nodes.count;
+    Ok(())
 }

@@ -8,7 +8,7 @@ use Rattle.sameness.specs.Reducing.{NodeReduced, no_kind}
 use Rattle.sameness.proofs.Judging.{last-in}
 use Rattle.sameness.proofs.KindNodes.{held-reduced}
 use Rattle.sameness.proofs.Lows.{node-low}
-use Rattle.sameness.proofs.reducing.reduce_rule.Goals as goal
+use Rattle.sameness.proofs.reducing.reduce_into.Goals as goal
 
 pub invariant_of-rule : goal.invariant_of-rule
 invariant_of-rule c = record { read = rw c.places.ensures (accepted-read 6 _ c.in_ok-nodes.nodes (omega arith) c.in_ok-nodes.ensures) }
@@ -25,7 +25,7 @@ pub loop-number-preserved : goal.loop-number-preserved
 loop-number-preserved c =
     let e = c.reduce_exprkind.ensures in
     let i = c.loop-number.invariant in
-    let ks = c.loop-number.kinds in
+    let ks = c.loop-number.reduced.kinds in
     let n = c.loop-number.number in
     let k = c.of.result in
     let ws = c.args.words.now in
